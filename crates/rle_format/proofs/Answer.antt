@@ -1,0 +1,54 @@
+-- The twelve numbers tell the refusals apart, so that a contract `told r ≡ a` determines r.
+use mathlib.Core.Path.{_≡_, refl, sym, ap, _∙_}
+use Prim.Native.Nat.{ℕ}
+use lib.Dec.{eqb}
+use Rattle.rle_format.specs.Choice.{choose}
+use Rattle.rle_format.specs.declared.Refusal.{Refusal}
+use Rattle.rle_format.specs.declared.Refusal.the-variants.{ZeroSize, TooLarge, LossLevel, InvalidUncompressedDataSize, ShortWork, ShortImage, ReadCompressedData, InvalidSegmentHeader, SegmentDoNotFitScanline, ShortPlane, NotEnoughBytes, BufferTooSmall}
+use Rattle.rle_format.specs.declared.Unpacked.{Unpacked}
+use Rattle.rle_format.specs.declared.Unpacked.the-variants.{Read, Refused}
+use Rattle.rle_format.specs.Answer.{Answer, counted, refused, number, told}
+
+-- the refusal that has a number
+abbrev refusal : ℕ → Refusal
+refusal n =
+    choose (eqb n 1) ZeroSize
+    (choose (eqb n 2) TooLarge
+    (choose (eqb n 3) LossLevel
+    (choose (eqb n 4) InvalidUncompressedDataSize
+    (choose (eqb n 5) ShortWork
+    (choose (eqb n 6) ShortImage
+    (choose (eqb n 7) ReadCompressedData
+    (choose (eqb n 8) InvalidSegmentHeader
+    (choose (eqb n 9) SegmentDoNotFitScanline
+    (choose (eqb n 10) ShortPlane
+    (choose (eqb n 11) NotEnoughBytes
+    BufferTooSmall))))))))))
+
+refusal-number : (r : Refusal) → refusal (number r) ≡ r
+refusal-number ZeroSize = refl
+refusal-number TooLarge = refl
+refusal-number LossLevel = refl
+refusal-number InvalidUncompressedDataSize = refl
+refusal-number ShortWork = refl
+refusal-number ShortImage = refl
+refusal-number ReadCompressedData = refl
+refusal-number InvalidSegmentHeader = refl
+refusal-number SegmentDoNotFitScanline = refl
+refusal-number ShortPlane = refl
+refusal-number NotEnoughBytes = refl
+refusal-number BufferTooSmall = refl
+
+pub numbers-apart : (r s : Refusal) → number r ≡ number s → r ≡ s
+numbers-apart r s e = sym (refusal-number r) ∙ ap refusal e ∙ refusal-number s
+
+abbrev untold : Answer → Unpacked
+untold (counted n) = Read n
+untold (refused k) = Refused (refusal k)
+
+untold-told : (r : Unpacked) → untold (told r) ≡ r
+untold-told (Read n) = refl
+untold-told (Refused r) = ap (λ (k : Refusal). Refused k) (refusal-number r)
+
+pub told-apart : (r s : Unpacked) → told r ≡ told s → r ≡ s
+told-apart r s e = sym (untold-told r) ∙ ap untold e ∙ untold-told s

@@ -1,0 +1,7 @@
+pub mod Choice
+pub mod Answer
+pub mod Slice
+pub mod Delta
+pub mod Segment
+pub mod Unpack
+pub mod Examples
