@@ -1,2 +1,9 @@
 pub mod Examples
 pub mod Answer
+pub mod Cases
+pub mod Slice
+pub mod Delta
+pub mod Segment
+pub mod Outcome
+pub mod Row
+pub mod Plane

@@ -1,0 +1,179 @@
+-- The rows of a plane one at a time, the tests before them, and how much a plane reads and writes.
+use mathlib.Core.Path.{_≡_, refl, sym, ap, _∙_}
+use mathlib.Core.Bool.{_||_}
+use mathlib.Core.Logic.{⊎-elim}
+use mathlib.Core.List.{List, [], _++_}
+use mathlib.Core.Option.{Option, none, some}
+use Prim.Native.Nat.{ℕ, zero, suc, _+_, _-_, _*_, _≤_, _<_}
+use native.Mathlib.Nat.{mul-le-mul, zero-mul, suc-mul, mul-comm}
+use native.Mathlib.Omega.{arith}
+use borrow.Author.Tests.{eq-eqb, ne-eqb, lt-ltb, le-ltb}
+use lib.ListN.{length, drop, length-append, length-drop}
+use Rattle.rle_format.specs.Answer.{Answer, counted, refused, Outcome, stop, onto}
+use Rattle.rle_format.specs.Delta.{undelta, restoreRow}
+use Rattle.rle_format.specs.Unpack.{RowRead, full, stopped, readRow, rowOutcome, unpackRows, unpackPlane}
+use Rattle.rle_format.proofs.Cases.{le-or-gt, eq-or-ne}
+use Rattle.rle_format.proofs.Delta.{length-columns}
+use Rattle.rle_format.proofs.Outcome.{same-answer}
+use Rattle.rle_format.proofs.Row.{RowBounded, row-bounded, rowFrom}
+
+-- ---- a row, and those below it
+
+module _ (w k : ℕ) (above : Option (List ℕ)) (body : List ℕ) where
+  rows-full : (codes : List ℕ) (n : ℕ) → readRow w w 0 body ≡ full codes n
+      → unpackRows w (suc k) above body ≡ onto (restoreRow above codes) n (unpackRows w k (some (restoreRow above codes)) (drop n body))
+  unfolding unpackRows
+  rows-full codes n e = cc e
+
+  rows-stopped : (codes : List ℕ) (r : ℕ) → readRow w w 0 body ≡ stopped codes r → unpackRows w (suc k) above body ≡ rowOutcome (stopped codes r)
+  unfolding unpackRows
+  rows-stopped codes r e = cc e
+
+-- the same, told from what the row's own outcome is
+not-counted : {r n : ℕ} {X : Type 0} → refused r ≡ counted n → X
+not-counted e = let z : _≡_ {A = ℕ} 0 1 = cc in absurd (omega arith)
+
+pub record RowFull (w n : ℕ) (body : List ℕ) : Type 0 where
+  pub wide : length (rowFrom w 0 body .written) ≡ w
+  pub within : n ≤ length body
+  pub rows : (k : ℕ) (above : Option (List ℕ)) → unpackRows w (suc k) above body
+      ≡ onto (restoreRow above (rowFrom w 0 body .written)) n (unpackRows w k (some (restoreRow above (rowFrom w 0 body .written))) (drop n body))
+
+pub row-full : (w n : ℕ) (body : List ℕ) → rowFrom w 0 body .answer ≡ counted n → RowFull w n body
+row-full w n body e = go (readRow w w 0 body) refl (row-bounded w w 0 body (omega arith)) e
+  where
+    go : (read : RowRead) → readRow w w 0 body ≡ read → RowBounded w body read → rowOutcome read .answer ≡ counted n → RowFull w n body
+    go (stopped codes r) is b a = not-counted a
+    go (full codes m) is b a =
+        let same : m ≡ n = cc in
+        let from : rowFrom w 0 body .written ≡ codes = ap (λ (r : RowRead). rowOutcome r .written) is in
+        record {
+          wide = ap length from ∙ b .0;
+          within = omega arith;
+          rows = λ k above. rw (from, ← same) (rows-full w k above body codes m is);
+        }
+
+pub row-stopped : (w r k : ℕ) (above : Option (List ℕ)) (body : List ℕ) → rowFrom w 0 body .answer ≡ refused r → unpackRows w (suc k) above body ≡ rowFrom w 0 body
+row-stopped w r k above body e = go (readRow w w 0 body) refl e
+  where
+    go : (read : RowRead) → readRow w w 0 body ≡ read → rowOutcome read .answer ≡ refused r → unpackRows w (suc k) above body ≡ rowFrom w 0 body
+    go (full codes m) is a = not-counted (sym a)
+    go (stopped codes q) is a = rows-stopped w k above body codes q is ∙ sym (ap rowOutcome is)
+
+-- no row
+pub rows-none : (w : ℕ) (above : Option (List ℕ)) (body : List ℕ) → unpackRows w 0 above body ≡ stop (counted 0)
+unfolding unpackRows
+rows-none w above body = refl
+
+-- ---- the tests before the rows, in their order
+
+-- a product of two sides is at most that of their limits
+pub area-most : (w h : ℕ) → w ≤ 8192 → h ≤ 8192 → w * h ≤ 67108864
+area-most w h a b = mul-le-mul a b
+
+module _ (w h room : ℕ) (body : List ℕ) where
+  pub plane-no-width : w ≡ 0 → unpackPlane w h room body ≡ stop (refused 1)
+  unfolding unpackPlane
+  plane-no-width e = simp (eq-eqb w 0 e)
+
+  module _ (hw : w ≡ 0 → ⊥) where
+    pub plane-no-height : h ≡ 0 → unpackPlane w h room body ≡ stop (refused 1)
+    unfolding unpackPlane
+    plane-no-height e = simp (ne-eqb w 0 hw, eq-eqb h 0 e)
+
+    module _ (hh : h ≡ 0 → ⊥) where
+      pub plane-wide : 8192 < w → unpackPlane w h room body ≡ stop (refused 2)
+      unfolding unpackPlane
+      plane-wide l = simp (ne-eqb w 0 hw, ne-eqb h 0 hh, lt-ltb 8192 w l)
+
+      module _ (lw : w ≤ 8192) where
+        pub plane-high : 8192 < h → unpackPlane w h room body ≡ stop (refused 2)
+        unfolding unpackPlane
+        plane-high l = simp (ne-eqb w 0 hw, ne-eqb h 0 hh, le-ltb 8192 w lw, lt-ltb 8192 h l)
+
+        module _ (lh : h ≤ 8192) where
+          pub plane-short : room < w * h → unpackPlane w h room body ≡ stop (refused 10)
+          unfolding unpackPlane
+          plane-short l = simp (ne-eqb w 0 hw, ne-eqb h 0 hh, le-ltb 8192 w lw, le-ltb 8192 h lh, lt-ltb room (w * h) l)
+
+          pub plane-rows : w * h ≤ room → unpackPlane w h room body ≡ unpackRows w h none body
+          unfolding unpackPlane
+          plane-rows l = simp (ne-eqb w 0 hw, ne-eqb h 0 hh, le-ltb 8192 w lw, le-ltb 8192 h lh, le-ltb room (w * h) l)
+
+-- ---- how much rows read and write
+
+-- rows that were read whole have written so many values, and at most two bytes were read for each; a refused row leaves no more,
+-- and its number is 7, 8 or 9
+abbrev pub RowsBounded : (area : ℕ) (body written : List ℕ) → Answer → Type 0
+RowsBounded area body written (counted n) = (length written ≡ area) × ((n ≤ length body) × (n ≤ 2 * area))
+RowsBounded area body written (refused r) = (length written ≤ area) × ((7 ≤ r) × (r ≤ 9))
+
+-- the row above, if there is one, is w wide
+abbrev pub AboveWide : (w : ℕ) → Option (List ℕ) → Type 0
+AboveWide w none = Unit {0}
+AboveWide w (some above) = length above ≡ w
+
+restored-wide : (w : ℕ) (above : Option (List ℕ)) (codes : List ℕ) → AboveWide w above → length codes ≡ w → length (restoreRow above codes) ≡ w
+restored-wide w none codes a e = e
+restored-wide w (some above) codes a e = length-columns undelta above codes (a ∙ sym e) ∙ e
+
+onto-bounded : (area n : ℕ) (body vs : List ℕ) (o : Outcome) → length vs ≤ area → n ≤ length body → n ≤ 2 * length vs
+    → RowsBounded (area - length vs) (drop n body) (o .written) (o .answer) → RowsBounded area body (onto vs n o .written) (onto vs n o .answer)
+unfolding onto
+onto-bounded area n body vs o h l t b = go (o .answer) b
+  where
+    long : length (vs ++ o .written) ≡ length vs + length (o .written)
+    long = length-append vs (o .written)
+
+    go : (a : Answer) → RowsBounded (area - length vs) (drop n body) (o .written) a → RowsBounded area body (vs ++ o .written) (onto vs n (record { written = o .written; answer = a }) .answer)
+    go (counted k) b = (omega (arith, long), (omega (arith, length-drop n body), omega arith))
+    go (refused r) b = (omega (arith, long), b .1)
+
+pub rows-bounded : (w k : ℕ) (above : Option (List ℕ)) (body : List ℕ) → AboveWide w above
+    → RowsBounded (k * w) body (unpackRows w k above body .written) (unpackRows w k above body .answer)
+unfolding stop
+rows-bounded w zero above body a = rw (rows-none w above body, zero-mul w) (refl, (omega arith, omega arith))
+rows-bounded w (suc k) above body a =
+    go (λ codes n. rows-bounded w k (some (restoreRow above codes)) (drop n body)) (readRow w w 0 body) refl (row-bounded w w 0 body (omega arith))
+  where
+    wide : suc k * w ≡ k * w + w
+    wide = suc-mul k w
+
+    go : ((codes : List ℕ) (n : ℕ) → length (restoreRow above codes) ≡ w
+        → RowsBounded (k * w) (drop n body) (unpackRows w k (some (restoreRow above codes)) (drop n body) .written) (unpackRows w k (some (restoreRow above codes)) (drop n body) .answer))
+        → (read : RowRead) → readRow w w 0 body ≡ read → RowBounded w body read
+        → RowsBounded (suc k * w) body (unpackRows w (suc k) above body .written) (unpackRows w (suc k) above body .answer)
+    go ih (stopped codes r) is b = rw (rows-stopped w k above body codes r is) (omega (arith, wide), b .1)
+    go ih (full codes n) is b =
+        let l : length (restoreRow above codes) ≡ w = restored-wide w above codes a (b .0) in
+        let e : suc k * w - length (restoreRow above codes) ≡ k * w = omega (arith, wide) in
+        rw (rows-full w k above body codes n is)
+        (onto-bounded (suc k * w) n body (restoreRow above codes) (unpackRows w k (some (restoreRow above codes)) (drop n body))
+        (omega (arith, wide)) (b .1 .0) (omega arith) (rw e (ih codes n l)))
+
+-- a plane that is read whole has read few bytes, within its body
+pub plane-read : (w h room n : ℕ) (body : List ℕ) → unpackPlane w h room body .answer ≡ counted n → (n ≤ length body) × (n ≤ 134217728)
+unfolding stop
+plane-read w h room n body e =
+    ⊎-elim (λ (z : w ≡ 0). refuses 1 (plane-no-width w h room body z))
+    (λ (hw : w ≡ 0 → ⊥).
+    ⊎-elim (λ (z : h ≡ 0). refuses 1 (plane-no-height w h room body hw z))
+    (λ (hh : h ≡ 0 → ⊥).
+    ⊎-elim
+    (λ (lw : w ≤ 8192).
+    ⊎-elim
+    (λ (lh : h ≤ 8192).
+    ⊎-elim (λ (l : w * h ≤ room). rows lw lh (plane-rows w h room body hw hh lw lh l))
+    (λ (l : room < w * h). refuses 10 (plane-short w h room body hw hh lw lh l)) (le-or-gt (w * h) room))
+    (λ (l : 8192 < h). refuses 2 (plane-high w h room body hw hh lw l)) (le-or-gt h 8192))
+    (λ (l : 8192 < w). refuses 2 (plane-wide w h room body hw hh l)) (le-or-gt w 8192))
+    (eq-or-ne h 0))
+    (eq-or-ne w 0)
+  where
+    refuses : (r : ℕ) → unpackPlane w h room body ≡ stop (refused r) → (n ≤ length body) × (n ≤ 134217728)
+    refuses r is = not-counted (sym (same-answer is) ∙ e)
+
+    rows : w ≤ 8192 → h ≤ 8192 → unpackPlane w h room body ≡ unpackRows w h none body → (n ≤ length body) × (n ≤ 134217728)
+    rows lw lh is =
+        let b = rw (sym (same-answer is) ∙ e) at (rows-bounded w h none body tt) in
+        (omega arith, omega (arith, area-most w h lw lh, mul-comm w h))

@@ -1,0 +1,132 @@
+-- Reading a segment: what stands at a position of the body, and what is known of a segment that was read.
+use mathlib.Core.Path.{_≡_, refl, sym, ap, _∙_}
+use mathlib.Core.Bool.{Bool, true, false}
+use mathlib.Core.Logic.{⊎-elim}
+use mathlib.Core.List.{List, [], _∷_, _++_}
+use Prim.Native.Nat.{ℕ, zero, suc, _+_, _-_, _/_, _%_, _≤_, _<_}
+use native.Mathlib.Omega.{arith}
+use native.Mathlib.Numerals.{add-one}
+use borrow.Author.Tests.{ltb-false, eq-eqb, ne-eqb, lt-ltb, le-ltb, eqb-false}
+use lib.Dec.{ltb, eqb}
+use lib.ListN.{length, take, drop, getD, length-append, length-drop, length-replicate, drop-of-length-le}
+use lib.Seq.{drop-cons, getD-drop, length-take-le}
+use Rattle.rle_format.specs.Choice.{choose}
+use Rattle.rle_format.specs.Segment.{Segment, lastOf, after, values, count, size, rawCount, runLength, SegmentRead, segment, no-segment, readSegment}
+
+-- a control byte that is not 0 stands for one value at least
+some-values : (c : ℕ) → (c ≡ 0 → ⊥) → 1 ≤ rawCount c + runLength c
+unfolding rawCount runLength
+some-values c h = go (eqb (c % 16) 1) (eqb (c % 16) 2)
+  where
+    go : (s t : Bool) → 1 ≤ choose s 0 (choose t 0 (c / 16)) + choose s (16 + c / 16) (choose t (32 + c / 16) (c % 16))
+    go true t = omega arith
+    go false true = omega arith
+    go false false = omega arith
+
+-- "The largest is 47"
+pub at-most-47 : (c : ℕ) → c < 256 → rawCount c + runLength c ≤ 47
+unfolding rawCount runLength
+at-most-47 c h = go (eqb (c % 16) 1) (eqb (c % 16) 2)
+  where
+    go : (s t : Bool) → choose s 0 (choose t 0 (c / 16)) + choose s (16 + c / 16) (choose t (32 + c / 16) (c % 16)) ≤ 47
+    go true t = omega arith
+    go false true = omega arith
+    go false false = omega arith
+
+-- what is known of a segment that was read: it lies within the body, its raw bytes stand behind the control byte, and it
+-- stands for one value at least
+pub record Seen (body : List ℕ) (s : Segment) : Type 0 where
+  pub fits : size s ≤ length body
+  pub raw-is : s .raw ≡ take (length (s .raw)) (drop 1 body)
+  pub some : 1 ≤ count s
+
+-- a refusal is no segment
+pub no-read : {r : ℕ} {s : Segment} {X : Type 0} → no-segment r ≡ segment s → X
+no-read e = let z : _≡_ {A = ℕ} 0 1 = cc in absurd (omega arith)
+
+pub seen : (body : List ℕ) (s : Segment) → readSegment body ≡ segment s → Seen body s
+unfolding readSegment
+seen [] s e = no-read e
+seen (c ∷ rest) s e = go (eqb c 0) (ltb (length rest) (rawCount c)) refl refl e
+  where
+    it : Segment
+    it = record { raw = take (rawCount c) rest; run = runLength c }
+
+    go : (z t : Bool) → eqb c 0 ≡ z → ltb (length rest) (rawCount c) ≡ t
+        → choose z (no-segment 8) (choose t (no-segment 7) (segment it)) ≡ segment s
+        → Seen (c ∷ rest) s
+    go true t ez et e = no-read e
+    go false true ez et e = no-read e
+    go false false ez et e =
+        let same : it ≡ s = cc in
+        let there : rawCount c ≤ length rest = ltb-false (length rest) (rawCount c) et in
+        let n : length (take (rawCount c) rest) ≡ rawCount c = length-take-le (rawCount c) rest there in
+        let of-it : Seen (c ∷ rest) it = record {
+          fits = omega arith;
+          raw-is = ap (λ (k : ℕ). take k rest) (sym n);
+          some = omega (arith, some-values c (eqb-false c 0 ez));
+        } in
+        rw same at of-it
+
+-- a segment is refused by 7 or 8
+pub segment-numbers : (body : List ℕ) (r : ℕ) → readSegment body ≡ no-segment r → (7 ≤ r) × (r ≤ 9)
+unfolding readSegment
+segment-numbers [] r e = let is : 7 ≡ r = cc in (omega arith, omega arith)
+segment-numbers (c ∷ rest) r e = go (eqb c 0) (ltb (length rest) (rawCount c)) e
+  where
+    go : (z t : Bool)
+        → choose z (no-segment 8) (choose t (no-segment 7) (segment (record { raw = take (rawCount c) rest; run = runLength c }))) ≡ no-segment r
+        → (7 ≤ r) × (r ≤ 9)
+    go true t e = let is : 8 ≡ r = cc in (omega arith, omega arith)
+    go false true e = let is : 7 ≡ r = cc in (omega arith, omega arith)
+    go false false e = no-read (sym e)
+
+-- ---- what a position of the body finds
+
+-- the segment that the control byte at a position says
+abbrev pub segmentAt : (s : List ℕ) (at : ℕ) → Segment
+segmentAt s at = record { raw = take (rawCount (getD s at 0)) (drop (at + 1) s); run = runLength (getD s at 0) }
+
+module _ (s : List ℕ) (at : ℕ) where
+  pub segment-end : length s ≤ at → readSegment (drop at s) ≡ no-segment 7
+  unfolding readSegment
+  segment-end h = rw (drop-of-length-le s h)
+
+  module _ (h : at < length s) where
+    pub segment-zero : getD s at 0 ≡ 0 → readSegment (drop at s) ≡ no-segment 8
+    unfolding readSegment
+    segment-zero z = rw (drop-cons s at 0 h, eq-eqb (getD s at 0) 0 z)
+
+    pub segment-short : (getD s at 0 ≡ 0 → ⊥) → length s - at - 1 < rawCount (getD s at 0) → readSegment (drop at s) ≡ no-segment 7
+    unfolding readSegment
+    segment-short z l =
+        let l′ : length (drop (suc at) s) < rawCount (getD s at 0) = simp length-drop (omega arith) in
+        rw (drop-cons s at 0 h, ne-eqb (getD s at 0) 0 z, lt-ltb (length (drop (suc at) s)) (rawCount (getD s at 0)) l′)
+
+    pub segment-read : (getD s at 0 ≡ 0 → ⊥) → rawCount (getD s at 0) ≤ length s - at - 1 → readSegment (drop at s) ≡ segment (segmentAt s at)
+    unfolding readSegment
+    segment-read z l =
+        let l′ : rawCount (getD s at 0) ≤ length (drop (suc at) s) = simp length-drop (omega arith) in
+        rw (drop-cons s at 0 h, ne-eqb (getD s at 0) 0 z, le-ltb (length (drop (suc at) s)) (rawCount (getD s at 0)) l′, add-one)
+
+-- ---- the values of a segment
+
+pub length-values : (last : ℕ) (s : Segment) → length (values last s) ≡ count s
+length-values last s = simp (length-append, length-replicate)
+
+last-take : (s : List ℕ) (raw last : ℕ) → raw < length s → lastOf last (take (suc raw) s) ≡ getD s raw 0
+last-take [] raw last h = absurd (omega arith)
+last-take (x ∷ s) zero last h = refl
+last-take (x ∷ s) (suc raw) last h = last-take s raw x (omega arith)
+
+-- the last of the raw bytes behind the control byte at a position
+pub last-at : (s : List ℕ) (at raw last : ℕ) → (raw ≡ 0 → ⊥) → at + raw < length s → lastOf last (take raw (drop (at + 1) s)) ≡ getD s (at + raw) 0
+last-at s at zero last z h = absurd (z refl)
+last-at s at (suc raw) last z h =
+    last-take (drop (at + 1) s) raw last (simp length-drop (omega arith)) ∙ getD-drop (at + 1) s raw 0 ∙ ap (λ (k : ℕ). getD s k 0) (sum at raw)
+  where
+    sum : (at raw : ℕ) → at + 1 + raw ≡ at + suc raw
+    sum at raw = omega arith
+
+pub last-none : (s : List ℕ) (raw last : ℕ) → raw ≡ 0 → lastOf last (take raw s) ≡ last
+last-none s raw last e = rw e

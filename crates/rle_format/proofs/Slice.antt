@@ -1,0 +1,187 @@
+-- Laws of the slice after a write, `over` and `putAt`, and of parts that are lent.
+use Prim.Native.Nat.{ℕ, zero, suc, _+_, _-_, _≤_, _<_}
+use mathlib.Core.Path.{_≡_, refl, sym, ap, _∙_}
+use mathlib.Core.List.{List, [], _∷_, _++_, append-assoc, append-nil}
+use native.Mathlib.Nat.{add-zero, zero-add, suc-add, add-assoc}
+use native.Mathlib.Numerals.{add-one}
+use native.Mathlib.Omega.{arith}
+use lib.ListN.{length, take, drop, set, getD, replicate, length-append, length-take, length-drop, length-replicate, take-append-drop, replicate-append-replicate, List·getD-append, drop-of-length-le}
+use lib.Seq.{set-split, take-at, drop-at, drop-drop, take-suc, getD-drop, getD-take, take-all, take-nil, take-add, drop-append-add}
+use Rattle.rle_format.specs.Slice.{over, putAt}
+
+pub putAt-none : (d : List ℕ) (at : ℕ) → putAt d at [] ≡ d
+unfolding putAt
+putAt-none d at = ap (λ (k : ℕ). take at d ++ drop k d) (add-zero at) ∙ take-append-drop at d
+
+pub putAt-over : (d vs : List ℕ) → putAt d 0 vs ≡ over d vs
+unfolding putAt over
+putAt-over d vs = rw zero-add
+
+pub over-none : (d : List ℕ) → over d [] ≡ d
+unfolding over
+over-none d = refl
+
+module _ (d : List ℕ) (at : ℕ) (vs : List ℕ) (fits : at + length vs ≤ length d) where
+  length-front : length (take at d ++ vs) ≡ at + length vs
+  length-front = simp (length-append, length-take) (omega arith)
+
+  pub length-putAt : length (putAt d at vs) ≡ length d
+  unfolding putAt
+  length-putAt = simp (length-append, length-take, length-drop) (omega arith)
+
+  pub take-putAt : take (at + length vs) (putAt d at vs) ≡ take at d ++ vs
+  unfolding putAt
+  take-putAt = rw (← append-assoc (take at d) vs (drop (at + length vs) d)) (take-at (take at d ++ vs) (drop (at + length vs) d) (at + length vs) length-front)
+
+  pub drop-putAt : drop (at + length vs) (putAt d at vs) ≡ drop (at + length vs) d
+  unfolding putAt
+  drop-putAt = rw (← append-assoc (take at d) vs (drop (at + length vs) d)) (drop-at (take at d ++ vs) (drop (at + length vs) d) (at + length vs) length-front)
+
+  -- vs, and then ws right after them
+  pub putAt-putAt : (ws : List ℕ) → putAt (putAt d at vs) (at + length vs) ws ≡ putAt d at (vs ++ ws)
+  unfolding putAt
+  putAt-putAt ws =
+      let tail : drop (at + length vs + length ws) (putAt d at vs) ≡ drop (at + length (vs ++ ws)) d =
+      sym (drop-drop (length ws) (at + length vs) (putAt d at vs))
+      ∙ ap (drop (length ws)) drop-putAt
+      ∙ drop-drop (length ws) (at + length vs) d
+      ∙ rw (length-append, add-assoc) in
+      (λ i. take-putAt i ++ (ws ++ tail i))
+      ∙ append-assoc (take at d) vs (ws ++ drop (at + length (vs ++ ws)) d)
+      ∙ ap (λ (l : List ℕ). take at d ++ l) (sym (append-assoc vs ws (drop (at + length (vs ++ ws)) d)))
+
+-- a store is such a write
+pub set-putAt : (d : List ℕ) (at v : ℕ) → at < length d → set d at v ≡ putAt d at (v ∷ [])
+unfolding putAt
+set-putAt d at v h = set-split d at v h ∙ ap (λ (k : ℕ). take at d ++ (v ∷ drop k d)) (sym (add-one at))
+
+-- a store right after what was written
+pub putAt-more : (d : List ℕ) (at : ℕ) (vs : List ℕ) (v : ℕ) → at + length vs < length d
+    → set (putAt d at vs) (at + length vs) v ≡ putAt d at (vs ++ (v ∷ []))
+putAt-more d at vs v h =
+    let fits : at + length vs ≤ length d = omega arith in
+    let room : at + length vs < length (putAt d at vs) = rw (length-putAt d at vs fits) h in
+    set-putAt (putAt d at vs) (at + length vs) v room ∙ putAt-putAt d at vs fits (v ∷ [])
+
+-- ---- turns of the loops that copy and that fill
+
+-- a turn of the copy of s from index from on. now is the slice at the loop's head
+pub copy-more : (d s now : List ℕ) (at from j : ℕ) → now ≡ putAt d at (take j (drop from s)) → at + j < length d → from + j < length s
+    → set now (at + j) (getD s (from + j) 0) ≡ putAt d at (take (j + 1) (drop from s))
+copy-more d s now at from j e hd hs =
+    let n : length (take j (drop from s)) ≡ j = simp (length-take, length-drop) (omega arith) in
+    let room : at + length (take j (drop from s)) < length d = rw n hd in
+    let one : j < length (drop from s) = simp length-drop (omega arith) in
+    (λ i. set (e i) (at + sym n i) (getD s (from + j) 0))
+    ∙ putAt-more d at (take j (drop from s)) (getD s (from + j) 0) room
+    ∙ ap (putAt d at) (sym (rw (add-one, take-suc (drop from s) j 0 one, getD-drop)))
+
+-- a turn of the fill
+pub fill-more : (d now : List ℕ) (at v j : ℕ) → now ≡ putAt d at (replicate j v) → at + j < length d → set now (at + j) v ≡ putAt d at (replicate (j + 1) v)
+fill-more d now at v j e hd =
+    let n : length (replicate j v) ≡ j = length-replicate j v in
+    let room : at + length (replicate j v) < length d = rw n hd in
+    (λ i. set (e i) (at + sym n i) v)
+    ∙ putAt-more d at (replicate j v) v room
+    ∙ ap (putAt d at) (replicate-append-replicate j 1 v)
+
+-- two writes, the second right after the first
+pub put-both : (d one two xs ys : List ℕ) (at n : ℕ) → length xs ≡ n → at + n ≤ length d → one ≡ putAt d at xs → two ≡ putAt one (at + n) ys
+    → two ≡ putAt d at (xs ++ ys)
+put-both d one two xs ys at n l fits e₁ e₂ =
+    e₂ ∙ (λ i. putAt (e₁ i) (at + sym l i) ys) ∙ putAt-putAt d at xs (omega arith) ys
+
+-- ---- reads of what a write left
+
+-- before the place that was written
+pub getD-putAt-front : (d : List ℕ) (at i : ℕ) (vs : List ℕ) → i < at → at ≤ length d → getD (putAt d at vs) i 0 ≡ getD d i 0
+unfolding putAt
+getD-putAt-front d at i vs h l =
+    List·getD-append (take at d) (vs ++ drop (at + length vs) d) 0 i (simp length-take (omega arith)) ∙ getD-take at d i 0 h
+
+-- right after what was written
+pub getD-putAt-next : (d : List ℕ) (at n : ℕ) (vs : List ℕ) → length vs ≡ n → at + n ≤ length d → getD (putAt d at vs) (at + n) 0 ≡ getD d (at + n) 0
+getD-putAt-next d at n vs e l =
+    let back : (l : List ℕ) → getD (drop (at + length vs) l) 0 0 ≡ getD l (at + n) 0 = λ l. getD-drop (at + length vs) l 0 0 ∙ ap (λ (k : ℕ). getD l k 0) (omega arith) in
+    sym (back (putAt d at vs)) ∙ ap (λ (l : List ℕ). getD l 0 0) (drop-putAt d at vs (omega arith)) ∙ back d
+
+-- ---- a part that was lent, `&mut d[a..]`: its callee has `tail d a`, and d comes back as `put-back d a ys`
+
+abbrev pub tail : List ℕ → ℕ → List ℕ
+tail d a = take (length d - a) (drop a d)
+
+abbrev pub put-back : List ℕ → ℕ → List ℕ → List ℕ
+put-back d a ys = take a d ++ (ys ++ drop (length d - a) (drop a d))
+
+pub tail-is : (d : List ℕ) (a : ℕ) → tail d a ≡ drop a d
+tail-is d a = take-all (length d - a) (drop a d) (simp length-drop (omega arith))
+
+pub put-back-is : (d ys : List ℕ) (a : ℕ) → put-back d a ys ≡ take a d ++ ys
+put-back-is d ys a =
+    let short : length (drop a d) ≤ length d - a = simp length-drop (omega arith) in
+    let none : drop (length d - a) (drop a d) ≡ [] = drop-of-length-le (drop a d) short in
+    ap (λ (l : List ℕ). take a d ++ (ys ++ l)) none ∙ ap (λ (l : List ℕ). take a d ++ l) (append-nil ys)
+
+-- what the callee wrote from its first place on, as a write of the whole
+pub lent-over : (d ys vs : List ℕ) (a : ℕ) → ys ≡ over (tail d a) vs → put-back d a ys ≡ putAt d a vs
+unfolding putAt over
+lent-over d ys vs a e =
+    put-back-is d ys a
+    ∙ ap (λ (l : List ℕ). take a d ++ l) (e ∙ ap (λ (l : List ℕ). vs ++ drop (length vs) l) (tail-is d a) ∙ ap (λ (l : List ℕ). vs ++ l) (drop-drop (length vs) a d))
+
+-- what it wrote from its place k on
+pub lent-put : (d ys vs : List ℕ) (a k : ℕ) → ys ≡ putAt (tail d a) k vs → put-back d a ys ≡ putAt d (a + k) vs
+unfolding putAt
+lent-put d ys vs a k e =
+    put-back-is d ys a
+    ∙ ap (λ (l : List ℕ). take a d ++ l) (e ∙ ap (λ (l : List ℕ). take k l ++ (vs ++ drop (k + length vs) l)) (tail-is d a))
+    ∙ sym (append-assoc (take a d) (take k (drop a d)) (vs ++ drop (k + length vs) (drop a d)))
+    ∙ (λ i. sym (take-add a k d) i ++ (vs ++ (drop-drop (k + length vs) a d ∙ ap (λ (n : ℕ). drop n d) (sym (add-assoc a k (length vs)))) i))
+
+-- ---- more of writes
+
+-- the slice enters a write by what stands before and after it
+putAt-parts : (d e : List ℕ) (at : ℕ) (vs : List ℕ) → take at d ≡ take at e → drop (at + length vs) d ≡ drop (at + length vs) e → putAt d at vs ≡ putAt e at vs
+unfolding putAt
+putAt-parts d e at vs p q = λ i. p i ++ (vs ++ q i)
+
+pub take-putAt-front : (d : List ℕ) (at : ℕ) (vs : List ℕ) → at ≤ length d → take at (putAt d at vs) ≡ take at d
+unfolding putAt
+take-putAt-front d at vs h = take-at (take at d) (vs ++ drop (at + length vs) d) at (simp length-take (omega arith))
+
+-- a write over a write of as many
+pub putAt-again : (d : List ℕ) (at : ℕ) (vs ws : List ℕ) → at + length vs ≤ length d → length vs ≡ length ws → putAt (putAt d at vs) at ws ≡ putAt d at ws
+putAt-again d at vs ws fits e =
+    let front : take at (putAt d at vs) ≡ take at d = take-putAt-front d at vs (omega arith) in
+    let back : drop (at + length ws) (putAt d at vs) ≡ drop (at + length ws) d = rw (← e) (drop-putAt d at vs fits) in
+    putAt-parts (putAt d at vs) d at ws front back
+
+-- the first places written twice, the second time as many or more
+pub over-over : (d vs ws : List ℕ) → length vs ≤ length ws → over (over d vs) ws ≡ over d ws
+unfolding over
+over-over d vs ws h =
+    let n : length ws ≡ length vs + (length ws - length vs) = omega arith in
+    ap (λ (l : List ℕ). ws ++ l)
+    (ap (λ (k : ℕ). drop k (vs ++ drop (length vs) d)) n
+    ∙ drop-append-add vs (drop (length vs) d) (length ws - length vs)
+    ∙ drop-drop (length ws - length vs) (length vs) d
+    ∙ ap (λ (k : ℕ). drop k d) (sym n))
+
+pub take-drop : (l : List ℕ) (a w : ℕ) → take w (drop a l) ≡ drop a (take (a + w) l)
+take-drop l zero w = ap (λ (k : ℕ). take k l) (sym (zero-add w))
+take-drop [] (suc a) w = take-nil w ∙ sym (ap (drop (suc a)) (take-nil (suc a + w)))
+take-drop (x ∷ l) (suc a) w = take-drop l a w ∙ sym (ap (λ (k : ℕ). drop (suc a) (take k (x ∷ l))) (suc-add a w))
+
+-- what a write left from its place on
+pub drop-putAt-at : (d : List ℕ) (at : ℕ) (vs : List ℕ) → at ≤ length d → drop at (putAt d at vs) ≡ vs ++ drop (at + length vs) d
+unfolding putAt
+drop-putAt-at d at vs h = drop-at (take at d) (vs ++ drop (at + length vs) d) at (simp length-take (omega arith))
+
+-- a write of a slice that has changed only before it
+pub put-over : (d₀ d : List ℕ) (at : ℕ) (vs : List ℕ) → at ≤ length d → drop at d ≡ drop at d₀ → putAt d at vs ≡ over d₀ (take at d ++ vs)
+unfolding putAt over
+put-over d₀ d at vs h e =
+    let n : length (take at d ++ vs) ≡ at + length vs = simp (length-append, length-take) (omega arith) in
+    let back : drop (at + length vs) d ≡ drop (length (take at d ++ vs)) d₀ =
+    sym (drop-drop (length vs) at d) ∙ ap (drop (length vs)) e ∙ drop-drop (length vs) at d₀ ∙ rw n in
+    ap (λ (l : List ℕ). take at d ++ (vs ++ l)) back ∙ sym (append-assoc (take at d) vs (drop (length (take at d ++ vs)) d₀))
