@@ -11,27 +11,37 @@ use lib.Dec.{ltb, eqb}
 use lib.ListN.{length, take, drop, getD, length-append, length-drop, length-replicate, drop-of-length-le}
 use lib.Seq.{drop-cons, getD-drop, length-take-le}
 use Rattle.rle_format.specs.Choice.{choose}
+use Rattle.rle_format.proofs.Cases.{eq-or-ne}
 use Rattle.rle_format.specs.Segment.{Segment, lastOf, after, values, count, size, rawCount, runLength, SegmentRead, segment, no-segment, readSegment}
 
--- a control byte that is not 0 stands for one value at least
-some-values : (c : ℕ) → (c ≡ 0 → ⊥) → 1 ≤ rawCount c + runLength c
-unfolding rawCount runLength
-some-values c h = go (eqb (c % 16) 1) (eqb (c % 16) 2)
-  where
-    go : (s t : Bool) → 1 ≤ choose s 0 (choose t 0 (c / 16)) + choose s (16 + c / 16) (choose t (32 + c / 16) (c % 16))
-    go true t = omega arith
-    go false true = omega arith
-    go false false = omega arith
+-- what a control byte says, by its low four bits
+module _ (c : ℕ) where
+  pub says-one : c % 16 ≡ 1 → (0 ≡ rawCount c) × (16 + c / 16 ≡ runLength c)
+  unfolding rawCount runLength
+  says-one e = rw (eq-eqb (c % 16) 1 e) (refl, refl)
 
--- "The largest is 47"
-pub at-most-47 : (c : ℕ) → c < 256 → rawCount c + runLength c ≤ 47
-unfolding rawCount runLength
-at-most-47 c h = go (eqb (c % 16) 1) (eqb (c % 16) 2)
-  where
-    go : (s t : Bool) → choose s 0 (choose t 0 (c / 16)) + choose s (16 + c / 16) (choose t (32 + c / 16) (c % 16)) ≤ 47
-    go true t = omega arith
-    go false true = omega arith
-    go false false = omega arith
+  module _ (not-one : c % 16 ≡ 1 → ⊥) where
+    pub says-two : c % 16 ≡ 2 → (0 ≡ rawCount c) × (32 + c / 16 ≡ runLength c)
+    unfolding rawCount runLength
+    says-two e = rw (ne-eqb (c % 16) 1 not-one, eq-eqb (c % 16) 2 e) (refl, refl)
+
+    pub says-plain : (c % 16 ≡ 2 → ⊥) → (c / 16 ≡ rawCount c) × (c % 16 ≡ runLength c)
+    unfolding rawCount runLength
+    says-plain not-two = rw (ne-eqb (c % 16) 1 not-one, ne-eqb (c % 16) 2 not-two) (refl, refl)
+
+-- a control byte that is not 0 stands for one value at least, and for 47 at most: "The largest is 47"
+pub record Stands (c : ℕ) : Type 0 where
+  pub some : (c ≡ 0 → ⊥) → 1 ≤ rawCount c + runLength c
+  pub few : c < 256 → rawCount c + runLength c ≤ 47
+
+pub stands : (c : ℕ) → Stands c
+stands c =
+    ⊎-elim (λ (one : c % 16 ≡ 1). let s = says-one c one in record { some = λ z. omega arith; few = λ h. omega arith })
+    (λ (not-one : c % 16 ≡ 1 → ⊥).
+    ⊎-elim (λ (two : c % 16 ≡ 2). let s = says-two c not-one two in record { some = λ z. omega arith; few = λ h. omega arith })
+    (λ (not-two : c % 16 ≡ 2 → ⊥). let s = says-plain c not-one not-two in record { some = λ z. omega arith; few = λ h. omega arith })
+    (eq-or-ne (c % 16) 2))
+    (eq-or-ne (c % 16) 1)
 
 -- what is known of a segment that was read: it lies within the body, its raw bytes stand behind the control byte, and it
 -- stands for one value at least
@@ -64,7 +74,7 @@ seen (c ∷ rest) s e = go (eqb c 0) (ltb (length rest) (rawCount c)) refl refl 
         let of-it : Seen (c ∷ rest) it = record {
           fits = omega arith;
           raw-is = ap (λ (k : ℕ). take k rest) (sym n);
-          some = omega (arith, some-values c (eqb-false c 0 ez));
+          some = omega (arith, stands c .some (eqb-false c 0 ez));
         } in
         rw same at of-it
 

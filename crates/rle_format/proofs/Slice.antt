@@ -65,16 +65,15 @@ putAt-more d at vs v h =
 
 -- ---- turns of the loops that copy and that fill
 
--- a turn of the copy of s from index from on. now is the slice at the loop's head
-pub copy-more : (d s now : List ℕ) (at from j : ℕ) → now ≡ putAt d at (take j (drop from s)) → at + j < length d → from + j < length s
-    → set now (at + j) (getD s (from + j) 0) ≡ putAt d at (take (j + 1) (drop from s))
-copy-more d s now at from j e hd hs =
-    let n : length (take j (drop from s)) ≡ j = simp (length-take, length-drop) (omega arith) in
-    let room : at + length (take j (drop from s)) < length d = rw n hd in
-    let one : j < length (drop from s) = simp length-drop (omega arith) in
-    (λ i. set (e i) (at + sym n i) (getD s (from + j) 0))
-    ∙ putAt-more d at (take j (drop from s)) (getD s (from + j) 0) room
-    ∙ ap (putAt d at) (sym (rw (add-one, take-suc (drop from s) j 0 one, getD-drop)))
+-- a turn of the copy of s. now is the slice at the loop's head
+pub copy-more : (d s now : List ℕ) (at j : ℕ) → now ≡ putAt d at (take j s) → at + j < length d → j < length s
+    → set now (at + j) (getD s j 0) ≡ putAt d at (take (j + 1) s)
+copy-more d s now at j e hd hs =
+    let n : length (take j s) ≡ j = simp length-take (omega arith) in
+    let room : at + length (take j s) < length d = rw n hd in
+    (λ i. set (e i) (at + sym n i) (getD s j 0))
+    ∙ putAt-more d at (take j s) (getD s j 0) room
+    ∙ ap (putAt d at) (sym (rw (add-one, take-suc s j 0 hs)))
 
 -- a turn of the fill
 pub fill-more : (d now : List ℕ) (at v j : ℕ) → now ≡ putAt d at (replicate j v) → at + j < length d → set now (at + j) v ≡ putAt d at (replicate (j + 1) v)

@@ -1,0 +1,3 @@
+mod Segments
+mod Turns
+mod Rows

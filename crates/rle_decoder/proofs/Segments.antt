@@ -1,0 +1,60 @@
+-- The segment reader's answer, made of what the body has and taken apart again. Assumes nothing.
+use mathlib.Core.Path.{_≡_, refl, sym, ap, _∙_}
+use mathlib.Core.List.{List}
+use Prim.Native.Nat.{ℕ, _+_, _-_, _≤_, _<_}
+use native.Mathlib.Omega.{arith}
+use lib.ListN.{length, take, drop, getD, length-drop}
+use lib.Seq.{length-take-le, drop-drop}
+use Rattle.rle_format.specs.Segment.{Segment, lastOf, after, values, count, rawCount, runLength, SegmentRead, segment, no-segment, readSegment}
+use Rattle.rle_format.proofs.Segment.{seen, segment-read}
+use Rattle.rle_decoder.specs.NextSegment.{SegmentAnswer, read, refused-by, answerTo}
+
+-- a refusal is no segment that was read
+pub not-read : {r raw run last : ℕ} {X : Type 0} → refused-by r ≡ read raw run last → X
+not-read e = let z : _≡_ {A = ℕ} 0 1 = cc in absurd (omega arith)
+
+-- the answer where the control byte at a position and its raw bytes are there
+pub read-at : (s : List ℕ) (at before raw run last : ℕ) → at < length s → (getD s at 0 ≡ 0 → ⊥) → raw ≡ rawCount (getD s at 0) → run ≡ runLength (getD s at 0)
+    → raw ≤ length s - at - 1 → last ≡ lastOf before (take raw (drop (at + 1) s)) → read raw run last ≡ answerTo before (readSegment (drop at s))
+read-at s at before raw run last h z er en there el =
+    let n : length (take raw (drop (at + 1) s)) ≡ raw = length-take-le raw (drop (at + 1) s) (omega (arith, length-drop (at + 1) s)) in
+    let e = segment-read s at h z (rw er at there) in
+    (λ i. read (sym n i) (en i) (el i))
+    ∙ ap (λ (k : ℕ). read (length (take k (drop (at + 1) s))) (runLength (getD s at 0)) (lastOf before (take k (drop (at + 1) s)))) er
+    ∙ sym (ap (answerTo before) e)
+
+-- what an answer says of the body at a position: a segment of so many raw bytes and such a run lies within it
+pub record Found (s : List ℕ) (at before raw run last : ℕ) : Type 0 where
+  pub it : Segment
+  pub found : readSegment (drop at s) ≡ segment it
+  pub raws : length (it .raw) ≡ raw
+  pub runs : it .run ≡ run
+  pub lasts : after before it ≡ last
+  pub raw-is : it .raw ≡ take raw (drop (at + 1) s)
+  pub within : at + raw < length s
+  pub some : 1 ≤ raw + run
+
+pub found-segment : (s : List ℕ) (at before raw run last : ℕ) → read raw run last ≡ answerTo before (readSegment (drop at s)) → Found s at before raw run last
+found-segment s at before raw run last e = go (readSegment (drop at s)) refl e
+  where
+    go : (g : SegmentRead) → readSegment (drop at s) ≡ g → read raw run last ≡ answerTo before g → Found s at before raw run last
+    go (no-segment r) is e = not-read (sym e)
+    go (segment it) is e =
+        let k = seen (drop at s) it is in
+        let er : length (it .raw) ≡ raw = cc in
+        let en : it .run ≡ run = cc in
+        let d = length-drop at s in
+        record {
+          it = it;
+          found = is;
+          raws = er;
+          runs = en;
+          lasts = cc;
+          raw-is = k .raw-is ∙ (λ i. take (er i) (drop-drop 1 at s i));
+          within = omega (arith, k .fits);
+          some = omega (arith, k .some);
+        }
+
+pub found-none : (r before : ℕ) (g : SegmentRead) → refused-by r ≡ answerTo before g → g ≡ no-segment r
+found-none r before (segment s) e = not-read e
+found-none r before (no-segment q) e = let same : q ≡ r = cc in ap no-segment same
