@@ -1,0 +1,107 @@
+-- The turns of the loop of `decode_scanline`, on plain values. Assumes nothing.
+use mathlib.Core.Path.{_≡_, refl, sym, ap, _∙_}
+use mathlib.Core.List.{List, [], _++_, append-nil}
+use Prim.Native.Nat.{ℕ, _+_, _-_, _≤_, _<_}
+use native.Mathlib.Nat.{sub-self, sub-zero, add-zero}
+use native.Mathlib.Omega.{arith}
+use lib.ListN.{length, take, drop, replicate, length-take, take-append-drop}
+use lib.Seq.{drop-drop}
+use Rattle.rle_format.specs.Answer.{Answer, counted, refused, Outcome, stop, more, onto}
+use Rattle.rle_format.specs.Slice.{over, putAt}
+use Rattle.rle_format.specs.Segment.{Segment, lastOf, after, values, count, size, segment, no-segment, readSegment}
+use Rattle.rle_format.proofs.Slice.{length-putAt, take-putAt, drop-putAt}
+use Rattle.rle_format.proofs.Outcome.{onto-none, onto-onto, same-answer}
+use Rattle.rle_format.proofs.Segment.{length-values}
+use Rattle.rle_format.proofs.Row.{rowFrom, from-full, from-refused, from-passes, from-step}
+use Rattle.rle_decoder.specs.NextSegment.{SegmentAnswer, read, refused-by, answerTo, stoppedBy}
+use Rattle.rle_decoder.proofs.Segments.{Found, found-segment, found-none}
+
+-- the row that is read from the bytes from `from` on
+abbrev pub row : (src : List ℕ) (from width : ℕ) → Outcome
+row src from width = rowFrom width 0 (drop from src)
+
+-- the loop at its head: d₀ is the slice as it came and d as it is now. The whole row is what is written, in front of the row
+-- from here on
+pub record RowHead (src d₀ d : List ℕ) (from width at column last : ℕ) : Type 0 where
+  pub low : from ≤ at
+  pub within : column ≤ width
+  pub len : length d ≡ length d₀
+  pub rest : drop column d ≡ drop column d₀
+  pub whole : row src from width ≡ onto (take column d) (at - from) (rowFrom (width - column) last (drop at src))
+
+pub row-first : (src d : List ℕ) (from width : ℕ) → RowHead src d d from width from 0 0
+row-first src d from width = record {
+  low = omega arith;
+  within = omega arith;
+  len = refl;
+  rest = refl;
+  whole = sym (rw (sub-self, sub-zero) (onto-none _));
+}
+
+module _ (src d₀ d : List ℕ) (from width at column last : ℕ) (fits : width ≤ length d₀) (h : RowHead src d₀ d from width at column last) where
+  -- where the row stops here, the slice has its values in front, and the answer is the row's
+  row-ends : (a : Answer) → rowFrom (width - column) last (drop at src) ≡ stop a
+      → (more (at - from) a ≡ row src from width .answer) × (d ≡ over d₀ (row src from width .written))
+  unfolding stop onto over
+  row-ends a e =
+      let w : row src from width ≡ onto (take column d) (at - from) (stop a) = h .whole ∙ ap (onto (take column d) (at - from)) e in
+      let n : length (take column d) ≡ column = simp length-take (omega (arith, h .len, h .within)) in
+      let v : row src from width .written ≡ take column d = ap (λ (o : Outcome). o .written) w ∙ append-nil (take column d) in (
+        sym (same-answer w),
+        sym (ap (λ (vs : List ℕ). vs ++ drop (length vs) d₀) v ∙ ap (λ (k : ℕ). take column d ++ drop k d₀) n ∙ ap (λ (l : List ℕ). take column d ++ l) (sym (h .rest)) ∙ take-append-drop column d),
+      )
+
+  -- the row is full
+  pub row-full : width ≤ column → (counted (at - from) ≡ row src from width .answer) × (d ≡ over d₀ (row src from width .written))
+  row-full l =
+      let none : width - column ≡ 0 = omega (arith, h .within) in
+      let ends = row-ends (counted 0) (rw none (from-full last (drop at src))) in
+      (sym (ap counted (add-zero (at - from))) ∙ ends .0, ends .1)
+
+  module _ (some : column < width) where
+    -- the next segment is a refusal
+    pub row-refused : (r : ℕ) → refused-by r ≡ answerTo last (readSegment (drop at src))
+        → (refused r ≡ row src from width .answer) × (d ≡ over d₀ (row src from width .written))
+    row-refused r e =
+        row-ends (refused r) (from-refused (width - column) last (drop at src) (omega arith) r (found-none r last (readSegment (drop at src)) e))
+
+    module _ (raw run next : ℕ) (e : read raw run next ≡ answerTo last (readSegment (drop at src))) where
+      f : Found src at last raw run next
+      f = found-segment src at last raw run next e
+
+      -- it passes the width
+      pub row-passes : width - column < raw + run → (refused 9 ≡ row src from width .answer) × (d ≡ over d₀ (row src from width .written))
+      row-passes wide =
+          row-ends (refused 9) (from-passes (width - column) last (drop at src) (omega arith) (f .it) (f .found) (omega (arith, f .raws, f .runs)))
+
+      -- it fits, and is written
+      pub row-turn : (d′ : List ℕ) → raw + run ≤ width - column
+          → d′ ≡ putAt d column (take (at + 1 + raw - (at + 1)) (drop (at + 1) src) ++ replicate run next)
+          → RowHead src d₀ d′ from width (at + 1 + raw) (column + raw + run) next
+      row-turn d′ room ed =
+          let s = f .it in
+          let vs : List ℕ = values last s in
+          let n : length vs ≡ raw + run = length-values last s ∙ (λ i. f .raws i + f .runs i) in
+          let sz : size s ≡ 1 + raw = ap (λ (k : ℕ). 1 + k) (f .raws) in
+          let k : at + 1 + raw - (at + 1) ≡ raw = omega arith in
+          let wrote : d′ ≡ putAt d column vs =
+          ed ∙ ap (λ (m : ℕ). putAt d column (take m (drop (at + 1) src) ++ replicate run next)) k
+          ∙ (λ i. putAt d column (sym (f .raw-is) i ++ replicate (sym (f .runs) i) (sym (f .lasts) i))) in
+          let into : column + length vs ≤ length d = omega (arith, h .len, h .within) in
+          let c : column + length vs ≡ column + raw + run = omega arith in
+          let cnt : count s ≡ raw + run = λ i. f .raws i + f .runs i in
+          let left : width - column - (raw + run) ≡ width - (column + raw + run) = omega arith in
+          let on : at + (1 + raw) ≡ at + 1 + raw = omega arith in
+          let bytes : at - from + (1 + raw) ≡ at + 1 + raw - from = omega (arith, h .low) in
+          let front : take (column + raw + run) d′ ≡ take column d ++ vs = rw (wrote, ← c) (take-putAt d column vs into) in
+          record {
+            low = omega (arith, h .low);
+            within = omega arith;
+            len = rw wrote (length-putAt d column vs into ∙ h .len);
+            rest = rw (wrote, ← c) (drop-putAt d column vs into ∙ sym (drop-drop (length vs) column d) ∙ ap (drop (length vs)) (h .rest) ∙ drop-drop (length vs) column d₀);
+            whole = h .whole
+                ∙ ap (onto (take column d) (at - from)) (from-step (width - column) last (drop at src) (omega arith) s (f .found) (omega arith))
+                ∙ onto-onto (take column d) vs (at - from) (size s) (rowFrom (width - column - count s) (after last s) (drop (size s) (drop at src)))
+                ∙ (λ i. onto (sym front i) (at - from + sz i) (rowFrom (width - column - cnt i) (f .lasts i) (drop (sz i) (drop at src))))
+                ∙ rw (bytes, left, drop-drop (1 + raw) at src, on);
+          }

@@ -71,7 +71,12 @@ pub(crate) fn decode_scanline(src: &[u8], from: usize, dst: &mut [u8], width: us
     let mut last: u8 = 0;
     while column < width {
         let segment = decompress_next_segment(src, at, last);
-        let NextSegment::Read { raw, run, last: next } = segment else {
+        let NextSegment::Read {
+            raw,
+            run,
+            last: next,
+        } = segment
+        else {
             return stopped_by(segment);
         };
         if width - column < raw + run {

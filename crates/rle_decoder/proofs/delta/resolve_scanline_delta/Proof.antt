@@ -1,10 +1,8 @@
-use Prim.Native.Nat.{ℕ, _+_, _%_}
-use lib.ListN.{getD}
-use Prim.Native.Nat.{_≤_, _-_}
+use Prim.Native.Nat.{ℕ, _+_, _%_, _≤_, _-_}
+use lib.ListN.{getD, length, take, length-set}
 use mathlib.Core.Path.{_≡_, refl, sym, ap, _∙_}
 use native.Mathlib.Omega.{arith}
 use borrow.Author.Needs.{needs}
-use lib.ListN.{length, take, length-set}
 use lib.Seq.{take-all}
 use Rattle.rle_format.specs.Slice.{putAt}
 use Rattle.rle_format.specs.Delta.{undelta}
@@ -12,10 +10,6 @@ use Rattle.rle_format.proofs.Slice.{putAt-none}
 use Rattle.rle_format.proofs.Delta.{second, length-second, second-more}
 use Rattle.rle_decoder.proofs.delta.resolve_scanline_delta.Statement.{statement}
 use Rattle.rle_decoder.proofs.delta.resolve_scanline_delta.Tie as tie
-use Rattle.rle_decoder.proofs.delta.resolve_scanline_delta.Reads as reads
-use Rattle.rle_decoder.proofs.delta.resolve_scanline_delta.Lts as lts
-use Rattle.rle_decoder.proofs.delta.transformed_delta.Reads as transformed-delta-reads
-use Rattle.std.proofs.num.wrapping_add_u8.Reads as wrapping-add-u8-reads
 
 abbrev Inv-loop : tie.InvT-loop
 Inv-loop rows₀ width i₀ rows i = (i ≤ width) × ((length rows ≡ length rows₀) × (rows ≡ putAt rows₀ width (take i (second rows₀ width))))
@@ -23,47 +17,36 @@ Inv-loop rows₀ width i₀ rows i = (i ≤ width) × ((length rows ≡ length r
 abbrev μ-loop : tie.MeasureT-loop
 μ-loop rows₀ width i₀ rows i = width - i
 
--- src/delta.rt:24:5
 loop-holds : tie.Need-loop-holds Inv-loop μ-loop
 loop-holds c = (omega arith, (refl, sym (putAt-none _ _)))
 
--- src/delta.rt:25:53
 slice-read-wrapping-add-u8 : tie.Need-slice-read-wrapping-add-u8 Inv-loop μ-loop
 slice-read-wrapping-add-u8 c = omega arith
 
--- src/delta.rt:25:85
 add-transformed-delta : tie.Need-add-transformed-delta Inv-loop μ-loop
 add-transformed-delta c = omega arith
 
--- src/delta.rt:25:80
 slice-read-transformed-delta : tie.Need-slice-read-transformed-delta Inv-loop μ-loop
 slice-read-transformed-delta c = omega arith
 
--- src/delta.rt:25:62
 transformed-delta-requires : tie.Need-transformed-delta-requires Inv-loop μ-loop
 transformed-delta-requires c κs = search needs
 
--- src/delta.rt:25:27
 wrapping-add-u8-requires : tie.Need-wrapping-add-u8-requires Inv-loop μ-loop
 wrapping-add-u8-requires c κs = search needs
 
--- src/delta.rt:25:14
 add-rows : tie.Need-add-rows Inv-loop μ-loop
 add-rows c = omega arith
 
--- src/delta.rt:25:9
 slice-write-rows : tie.Need-slice-write-rows Inv-loop μ-loop
 slice-write-rows c = omega arith
 
--- src/delta.rt:26:9
 add-i : tie.Need-add-i Inv-loop μ-loop
 add-i c = omega arith
 
--- src/delta.rt:24:5
 loop-less : tie.Need-loop-less Inv-loop μ-loop
 loop-less c = omega arith
 
--- src/delta.rt:24:5
 loop-again : tie.Need-loop-again Inv-loop μ-loop
 unfolding undelta
 loop-again c =
@@ -74,11 +57,9 @@ loop-again c =
     c .wrapping-add-u8 .ensures ∙ ap (λ (d : ℕ). (getD (l .rows) (l .i) 0 + d) % 256) (c .before .transformed-delta .ensures) in
     (omega arith, (simp length-set (omega arith), second-more (a .rows .now) (l .rows) (a .width) (l .i) (c .wrapping-add-u8 .result) (s .pre) (omega arith) (l .inv .1 .1) v))
 
--- src/delta.rt:19:1
 same-length : tie.Need-same-length Inv-loop μ-loop
 same-length c = omega arith
 
--- src/delta.rt:19:1
 returns : tie.Need-returns Inv-loop μ-loop
 unfolding second
 returns c =

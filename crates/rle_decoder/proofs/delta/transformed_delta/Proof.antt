@@ -2,18 +2,13 @@ use Rattle.rle_format.proofs.Delta.{even-code, odd-code}
 use borrow.Author.Needs.{needs}
 use Rattle.rle_decoder.proofs.delta.transformed_delta.Statement.{statement}
 use Rattle.rle_decoder.proofs.delta.transformed_delta.Tie as tie
-use Rattle.rle_decoder.proofs.delta.transformed_delta.Reads as reads
-use Rattle.rle_decoder.proofs.delta.transformed_delta.Lts as lts
 
--- src/delta.rt:14:39
 sub-result : tie.Need-sub-result
 sub-result c = search needs
 
--- src/delta.rt:10:1
 returns : tie.Need-returns
 returns c = even-code _ (c .if1 .taken)
 
--- src/delta.rt:10:1
 returns-2 : tie.Need-returns-2
 returns-2 c = odd-code _ (c .if1 .left)
 

@@ -7,8 +7,6 @@ use Rattle.rle_format.specs.Slice.{putAt}
 use Rattle.rle_format.proofs.Slice.{putAt-none, copy-more}
 use Rattle.rle_decoder.proofs.row.copy_raw.Statement.{statement}
 use Rattle.rle_decoder.proofs.row.copy_raw.Tie as tie
-use Rattle.rle_decoder.proofs.row.copy_raw.Reads as reads
-use Rattle.rle_decoder.proofs.row.copy_raw.Lts as lts
 
 abbrev Inv-loop : tie.InvT-loop
 Inv-loop raw dst₀ at i₀ dst i = (i ≤ length raw) × ((length dst ≡ length dst₀) × (dst ≡ putAt dst₀ at (take i raw)))
@@ -16,42 +14,33 @@ Inv-loop raw dst₀ at i₀ dst i = (i ≤ length raw) × ((length dst ≡ lengt
 abbrev μ-loop : tie.MeasureT-loop
 μ-loop raw dst₀ at i₀ dst i = length raw - i
 
--- src/row.rt:21:5
 loop-holds : tie.Need-loop-holds Inv-loop μ-loop
 loop-holds c = (omega arith, (refl, sym (putAt-none _ _)))
 
--- src/row.rt:22:23
 shared-slice-read-dst : tie.Need-shared-slice-read-dst Inv-loop μ-loop
 shared-slice-read-dst c = omega arith
 
--- src/row.rt:22:13
 add-dst : tie.Need-add-dst Inv-loop μ-loop
 add-dst c = omega arith
 
--- src/row.rt:22:9
 slice-write-dst : tie.Need-slice-write-dst Inv-loop μ-loop
 slice-write-dst c = omega arith
 
--- src/row.rt:23:9
 add-i : tie.Need-add-i Inv-loop μ-loop
 add-i c = omega arith
 
--- src/row.rt:21:5
 loop-less : tie.Need-loop-less Inv-loop μ-loop
 loop-less c = omega arith
 
--- src/row.rt:21:5
 loop-again : tie.Need-loop-again Inv-loop μ-loop
 loop-again c =
     let l = c .before .before .loop in
     let a = c .before .before .before .args in
     (omega arith, (simp length-set (omega arith), copy-more (a .dst .now) (a .raw .now) (l .dst) (a .at) (l .i) (l .inv .1 .1) (omega arith) (omega arith)))
 
--- src/row.rt:16:1
 same-length : tie.Need-same-length Inv-loop μ-loop
 same-length c = omega arith
 
--- src/row.rt:16:1
 returns : tie.Need-returns Inv-loop μ-loop
 returns c =
     let a = c .before .before .args in

@@ -1,116 +1,142 @@
+use mathlib.Core.Path.{_≡_, sym, ap, _∙_}
+use mathlib.Core.List.{List}
+use Prim.Native.Nat.{ℕ, _+_, _-_, _≤_, _<_}
+use native.Mathlib.Omega.{arith}
+use borrow.Author.Needs.{needs}
+use lib.ListN.{length, drop, length-take, length-drop}
+use Rattle.rle_format.specs.Answer.{number}
+use Rattle.rle_format.specs.Segment.{readSegment}
+use Rattle.rle_decoder.specs.NextSegment.{read, answerTo, toldSegment, stoppedBy}
+use Rattle.rle_decoder.proofs.Segments.{found-segment}
+use Rattle.rle_decoder.proofs.Turns.{RowHead, row-first, row-full, row-refused, row-passes, row-turn}
 use Rattle.rle_decoder.proofs.row.decode_scanline.Statement.{statement}
 use Rattle.rle_decoder.proofs.row.decode_scanline.Tie as tie
-use Rattle.rle_decoder.proofs.row.decode_scanline.Reads as reads
-use Rattle.rle_decoder.proofs.row.decode_scanline.Lts as lts
-use Rattle.rle_decoder.proofs.row.stopped_by.Reads as stopped-by-reads
-use Rattle.rle_decoder.proofs.row.write_segment.Reads as write-segment-reads
-use Rattle.rle_decoder.proofs.segment.decompress_next_segment.Reads as decompress-next-segment-reads
 
 abbrev Inv-loop : tie.InvT-loop
-Inv-loop src from dst₀ width at₀ column₀ last₀ dst at column last = ?
+Inv-loop src from dst₀ width at₀ column₀ last₀ dst at column last = RowHead src dst₀ dst from width at column last
 
 abbrev μ-loop : tie.MeasureT-loop
-μ-loop src from dst₀ width at₀ column₀ last₀ dst at column last = ?
+μ-loop src from dst₀ width at₀ column₀ last₀ dst at column last = width - column
 
--- src/row.rt:72:5
+-- a segment was read: what the reader's answer says
+known : (c : tie.After-segment Inv-loop μ-loop)
+    → read (c .segment .given .0 .0) (c .segment .given .0 .1 .0) (c .segment .given .0 .1 .1 .0)
+    ≡ answerTo (c .before .before .before .before .loop .last) (readSegment (drop (c .before .before .before .before .loop .at) (c .before .before .before .before .before .before .before .args .src .now)))
+known c = sym (ap toldSegment (c .segment .given .1)) ∙ c .before .before .decompress-next-segment .ensures .0
+
+-- and so it lies within the body and is short
+record Turned (src : List ℕ) (at raw run : ℕ) : Type 0 where
+  within : at + raw < length src
+  some : 1 ≤ raw + run
+  few : raw + run ≤ 47
+
+turned : (c : tie.After-segment Inv-loop μ-loop)
+    → Turned (c .before .before .before .before .before .before .before .args .src .now) (c .before .before .before .before .loop .at) (c .segment .given .0 .0) (c .segment .given .0 .1 .0)
+turned c =
+    let l = c .before .before .before .before .loop in
+    let a = c .before .before .before .before .before .before .before .args in
+    let f = found-segment (a .src .now) (l .at) (l .last) (c .segment .given .0 .0) (c .segment .given .0 .1 .0) (c .segment .given .0 .1 .1 .0) (known c) in
+    record { within = f .within; some = f .some; few = c .before .before .decompress-next-segment .ensures .1 _ _ _ (c .segment .given .1) }
+
 loop-holds : tie.Need-loop-holds Inv-loop μ-loop
-loop-holds c = ?
+loop-holds c = row-first _ _ _ _
 
--- src/row.rt:73:13
 decompress-next-segment-requires : tie.Need-decompress-next-segment-requires Inv-loop μ-loop
-decompress-next-segment-requires c κs = ?
+decompress-next-segment-requires c κs = search needs
 
--- src/row.rt:74:33
 enum-known-segment : tie.Need-enum-known-segment Inv-loop μ-loop
-enum-known-segment c = ?
+enum-known-segment c = search needs
 
--- src/row.rt:75:13
 enum-told : tie.Need-enum-told Inv-loop μ-loop
-enum-told c = ?
+enum-told c = search needs
 
--- src/row.rt:75:13
 stopped-by-requires : tie.Need-stopped-by-requires Inv-loop μ-loop
-stopped-by-requires c κs = ?
+stopped-by-requires c κs = search needs
 
--- src/row.rt:75:13
 same-length : tie.Need-same-length Inv-loop μ-loop
-same-length c = ?
+same-length c = omega arith
 
--- src/row.rt:75:13
 returns : tie.Need-returns Inv-loop μ-loop
-returns c = ?
+returns c =
+    let s = c .before .before .before .before .before .before .before .before in
+    let l = c .before .before .before .before .before .loop in
+    let t = c .before .before .before .before .loop-test .taken in
+    let d = c .before .before .before .decompress-next-segment in
+    let a = s .args in
+    let told-so = ap toldSegment (c .before .enum-told .given .1) in
+    let r = row-refused (a .src .now) (a .dst .now) (l .dst) (a .from) (a .width) (l .at) (l .column) (l .last) (s .pre) (l .inv) t (number (c .before .enum-told .given .0 .0)) (sym told-so ∙ d .ensures .0) in
+    (c .stopped-by .ensures ∙ ap stoppedBy told-so ∙ r .0, r .1)
 
--- src/row.rt:77:12
 sub-if1 : tie.Need-sub-if1 Inv-loop μ-loop
-sub-if1 c = ?
+sub-if1 c = omega arith
 
--- src/row.rt:77:29
 add-if1 : tie.Need-add-if1 Inv-loop μ-loop
-add-if1 c = ?
+add-if1 c = omega (arith, turned (c .before) .few)
 
--- src/row.rt:78:13
 stopped-by-requires-2 : tie.Need-stopped-by-requires-2 Inv-loop μ-loop
-stopped-by-requires-2 c κs = ?
+stopped-by-requires-2 c κs = search needs
 
--- src/row.rt:78:13
 same-length-2 : tie.Need-same-length-2 Inv-loop μ-loop
-same-length-2 c = ?
+same-length-2 c = omega arith
 
--- src/row.rt:78:13
 returns-2 : tie.Need-returns-2 Inv-loop μ-loop
-returns-2 c = ?
+returns-2 c =
+    let k = c .before .before .before in
+    let l = k .before .before .before .before .loop in
+    let t = k .before .before .before .loop-test .taken in
+    let s = k .before .before .before .before .before .before .before in
+    let a = s .args in
+    let r = row-passes (a .src .now) (a .dst .now) (l .dst) (a .from) (a .width) (l .at) (l .column) (l .last) (s .pre) (l .inv) t (k .segment .given .0 .0) (k .segment .given .0 .1 .0) (k .segment .given .0 .1 .1 .0) (known k) (c .before .if1 .taken) in
+    (c .stopped-by2 .ensures ∙ r .0, r .1)
 
--- src/row.rt:80:21
 add-start : tie.Need-add-start Inv-loop μ-loop
-add-start c = ?
+add-start c = omega (arith, turned (c .before .before) .within)
 
--- src/row.rt:81:19
 add-end : tie.Need-add-end Inv-loop μ-loop
-add-end c = ?
+add-end c = omega (arith, turned (c .before .before) .within)
 
--- src/row.rt:82:23
 sub-write-segment : tie.Need-sub-write-segment Inv-loop μ-loop
-sub-write-segment c = ?
+sub-write-segment c = omega (arith, turned (c .before .before) .within)
 
--- src/row.rt:82:23
 part-write-segment-start : tie.Need-part-write-segment-start Inv-loop μ-loop
-part-write-segment-start c = ?
+part-write-segment-start c = omega (arith, turned (c .before .before) .within)
 
--- src/row.rt:82:23
 part-write-segment-end : tie.Need-part-write-segment-end Inv-loop μ-loop
-part-write-segment-end c = ?
+part-write-segment-end c = omega (arith, turned (c .before .before) .within)
 
--- src/row.rt:82:9
 write-segment-requires : tie.Need-write-segment-requires Inv-loop μ-loop
-write-segment-requires c κs = ?
+write-segment-requires c κs = simp (length-take, length-drop) (omega (arith, turned (c .before .before .before .before) .within, c .before .before .if1 .left))
 
--- src/row.rt:85:18
 add-column : tie.Need-add-column Inv-loop μ-loop
-add-column c = ?
+add-column c = omega (arith, c .before .before .before .before .before .if1 .left)
 
--- src/row.rt:85:18
 add-column-2 : tie.Need-add-column-2 Inv-loop μ-loop
-add-column-2 c = ?
+add-column-2 c = omega (arith, c .before .before .before .before .before .if1 .left)
 
--- src/row.rt:72:5
 loop-less : tie.Need-loop-less Inv-loop μ-loop
-loop-less c = ?
+loop-less c = omega (arith, turned (c .before .before .before .before .before .before .before) .some, c .before .before .before .before .before .if1 .left)
 
--- src/row.rt:72:5
 loop-again : tie.Need-loop-again Inv-loop μ-loop
-loop-again c = ?
+loop-again c =
+    let k = c .before .before .before .before .before .before .before in
+    let l = k .before .before .before .before .loop in
+    let s = k .before .before .before .before .before .before .before in
+    let a = s .args in
+    row-turn (a .src .now) (a .dst .now) (l .dst) (a .from) (a .width) (l .at) (l .column) (l .last) (s .pre) (l .inv) (k .before .before .before .loop-test .taken)
+    (k .segment .given .0 .0) (k .segment .given .0 .1 .0) (k .segment .given .0 .1 .1 .0) (known k) (c .before .before .write-segment .last .1 .1 .1 .0) (c .before .before .before .before .before .if1 .left) (c .before .before .write-segment .ensures)
 
--- src/row.rt:87:20
 sub-t23 : tie.Need-sub-t23 Inv-loop μ-loop
-sub-t23 c = ?
+sub-t23 c = omega arith
 
--- src/row.rt:64:1
 same-length-3 : tie.Need-same-length-3 Inv-loop μ-loop
-same-length-3 c = ?
+same-length-3 c = omega arith
 
--- src/row.rt:64:1
 returns-3 : tie.Need-returns-3 Inv-loop μ-loop
-returns-3 c = ?
+returns-3 c =
+    let l = c .before .loop in
+    let s = c .before .before .before .before in
+    let a = s .args in
+    row-full (a .src .now) (a .dst .now) (l .dst) (a .from) (a .width) (l .at) (l .column) (l .last) (s .pre) (l .inv) (c .loop-test .left)
 
 pub decode-scanline-spec : {M : Type 1} → statement M
 decode-scanline-spec =

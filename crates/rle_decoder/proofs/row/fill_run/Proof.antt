@@ -6,8 +6,6 @@ use Rattle.rle_format.specs.Slice.{putAt}
 use Rattle.rle_format.proofs.Slice.{putAt-none, fill-more}
 use Rattle.rle_decoder.proofs.row.fill_run.Statement.{statement}
 use Rattle.rle_decoder.proofs.row.fill_run.Tie as tie
-use Rattle.rle_decoder.proofs.row.fill_run.Reads as reads
-use Rattle.rle_decoder.proofs.row.fill_run.Lts as lts
 
 abbrev Inv-loop : tie.InvT-loop
 Inv-loop dst₀ at run value i₀ dst i = (i ≤ run) × ((length dst ≡ length dst₀) × (dst ≡ putAt dst₀ at (replicate i value)))
@@ -15,38 +13,30 @@ Inv-loop dst₀ at run value i₀ dst i = (i ≤ run) × ((length dst ≡ length
 abbrev μ-loop : tie.MeasureT-loop
 μ-loop dst₀ at run value i₀ dst i = run - i
 
--- src/row.rt:33:5
 loop-holds : tie.Need-loop-holds Inv-loop μ-loop
 loop-holds c = (omega arith, (refl, sym (putAt-none _ _)))
 
--- src/row.rt:34:13
 add-dst : tie.Need-add-dst Inv-loop μ-loop
 add-dst c = omega arith
 
--- src/row.rt:34:9
 slice-write-dst : tie.Need-slice-write-dst Inv-loop μ-loop
 slice-write-dst c = omega arith
 
--- src/row.rt:35:9
 add-i : tie.Need-add-i Inv-loop μ-loop
 add-i c = omega arith
 
--- src/row.rt:33:5
 loop-less : tie.Need-loop-less Inv-loop μ-loop
 loop-less c = omega arith
 
--- src/row.rt:33:5
 loop-again : tie.Need-loop-again Inv-loop μ-loop
 loop-again c =
     let l = c .before .loop in
     let a = c .before .before .args in
     (omega arith, (simp length-set (omega arith), fill-more (a .dst .now) (l .dst) (a .at) (a .value) (l .i) (l .inv .1 .1) (omega arith)))
 
--- src/row.rt:28:1
 same-length : tie.Need-same-length Inv-loop μ-loop
 same-length c = omega arith
 
--- src/row.rt:28:1
 returns : tie.Need-returns Inv-loop μ-loop
 returns c =
     let e : c .before .loop .i ≡ c .before .before .args .run = omega arith in

@@ -4,22 +4,16 @@ use Rattle.rle_decoder.specs.NextSegment.{toldSegment, stoppedBy}
 use borrow.Author.Needs.{needs}
 use Rattle.rle_decoder.proofs.row.stopped_by.Statement.{statement}
 use Rattle.rle_decoder.proofs.row.stopped_by.Tie as tie
-use Rattle.rle_decoder.proofs.row.stopped_by.Reads as reads
-use Rattle.rle_decoder.proofs.row.stopped_by.Lts as lts
 
--- src/row.rt:53:30
 enum-known-segment : tie.Need-enum-known-segment
 enum-known-segment c = search needs
 
--- src/row.rt:58:32
 enum-told : tie.Need-enum-told
 enum-told c = search needs
 
--- src/row.rt:49:1
 returns : tie.Need-returns
 returns c = sym (ap (λ (s : NextSegment). stoppedBy (toldSegment s)) (c .before .segment .given .1))
 
--- src/row.rt:49:1
 returns-2 : tie.Need-returns-2
 returns-2 c = sym (ap (λ (s : NextSegment). stoppedBy (toldSegment s)) (c .enum-told .given .1))
 

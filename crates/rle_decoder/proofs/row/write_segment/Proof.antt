@@ -1,30 +1,30 @@
+use Rattle.rle_format.proofs.Slice.{put-both}
+use mathlib.Core.Path.{refl}
+use native.Mathlib.Omega.{arith}
+use lib.ListN.{length, replicate}
 use borrow.Author.Needs.{needs}
 use Rattle.rle_decoder.proofs.row.write_segment.Statement.{statement}
 use Rattle.rle_decoder.proofs.row.write_segment.Tie as tie
-use Rattle.rle_decoder.proofs.row.write_segment.Reads as reads
-use Rattle.rle_decoder.proofs.row.write_segment.Lts as lts
-use Rattle.rle_decoder.proofs.row.copy_raw.Reads as copy-raw-reads
-use Rattle.rle_decoder.proofs.row.fill_run.Reads as fill-run-reads
 
--- src/row.rt:44:5
 copy-raw-requires : tie.Need-copy-raw-requires
 copy-raw-requires c κs = search needs
 
--- src/row.rt:45:19
 add-fill-run : tie.Need-add-fill-run
 add-fill-run c = search needs
 
--- src/row.rt:45:5
 fill-run-requires : tie.Need-fill-run-requires
 fill-run-requires c κs = search needs
 
--- src/row.rt:40:1
 same-length : tie.Need-same-length
 same-length c = search needs
 
--- src/row.rt:40:1
 returns : tie.Need-returns
-returns c = ?
+returns c =
+    let f = c .before .before in
+    let k = f .before .before .before .before in
+    let a = k .before .before .before .before .args in
+    put-both (a .dst .now) (k .copy-raw .last .1 .0) (f .fill-run .last .0) (a .raw .now) (replicate (a .run) (a .last)) (a .column) (length (a .raw .now)) refl (omega arith)
+    (k .copy-raw .ensures) (f .fill-run .ensures)
 
 pub write-segment-spec : {M : Type 1} → statement M
 write-segment-spec =

@@ -2,34 +2,25 @@ use Rattle.rle_format.proofs.Segment.{says-one, says-two, says-plain}
 use borrow.Author.Needs.{needs}
 use Rattle.rle_decoder.proofs.segment.control_fields.Statement.{statement}
 use Rattle.rle_decoder.proofs.segment.control_fields.Tie as tie
-use Rattle.rle_decoder.proofs.segment.control_fields.Reads as reads
-use Rattle.rle_decoder.proofs.segment.control_fields.Lts as lts
 
--- src/segment.rt:24:15
 cast-low : tie.Need-cast-low
 cast-low c = search needs
 
--- src/segment.rt:25:16
 cast-high : tie.Need-cast-high
 cast-high c = search needs
 
--- src/segment.rt:29:18
 add-t6 : tie.Need-add-t6
 add-t6 c = search needs
 
--- src/segment.rt:27:9
 returns : tie.Need-returns
 returns c = says-one _ (c .if1 .taken)
 
--- src/segment.rt:35:18
 add-t7 : tie.Need-add-t7
 add-t7 c = search needs
 
--- src/segment.rt:33:9
 returns-2 : tie.Need-returns-2
 returns-2 c = says-two _ (c .before .if1 .left) (c .if2 .taken)
 
--- src/segment.rt:21:1
 returns-3 : tie.Need-returns-3
 returns-3 c = says-plain _ (c .before .if1 .left) (c .if2 .left)
 

@@ -1,50 +1,37 @@
 use Rattle.rle_format.proofs.Segment.{stands, segment-end, segment-zero, segment-short}
 use Rattle.rle_decoder.proofs.Segments.{not-read, read-at}
 use Rattle.rle_decoder.specs.NextSegment.{answerTo, toldSegment}
-use mathlib.Core.Path.{_≡_, sym, ap, _∙_}
+use mathlib.Core.Path.{_≡_, sym, ap}
 use native.Mathlib.Omega.{arith}
 use lib.ListN.{getD}
 use borrow.Author.Needs.{needs}
 use Rattle.rle_decoder.proofs.segment.decompress_next_segment.Statement.{statement}
 use Rattle.rle_decoder.proofs.segment.decompress_next_segment.Tie as tie
-use Rattle.rle_decoder.proofs.segment.decompress_next_segment.Reads as reads
-use Rattle.rle_decoder.proofs.segment.decompress_next_segment.Lts as lts
-use Rattle.rle_decoder.proofs.segment.control_fields.Reads as control-fields-reads
-use Rattle.rle_decoder.proofs.segment.last_decoded_byte.Reads as last-decoded-byte-reads
 
--- src/segment.rt:62:9
 returns : tie.Need-returns
 returns c = (sym (ap (answerTo _) (segment-end _ _ (c .if1 .taken))), λ raw run next e. not-read (ap toldSegment e))
 
--- src/segment.rt:64:19
 shared-slice-read-control : tie.Need-shared-slice-read-control
 shared-slice-read-control c = search needs
 
--- src/segment.rt:66:9
 returns-2 : tie.Need-returns-2
 returns-2 c = (sym (ap (answerTo _) (segment-zero _ _ (c .before .before .if1 .left) (c .if2 .taken))), λ raw run next e. not-read (ap toldSegment e))
 
--- src/segment.rt:68:9
 control-fields-requires : tie.Need-control-fields-requires
 control-fields-requires c κs = search needs
 
--- src/segment.rt:70:8
 sub-if3 : tie.Need-sub-if3
 sub-if3 c = search needs
 
--- src/segment.rt:70:8
 sub-if3-2 : tie.Need-sub-if3-2
 sub-if3-2 c = search needs
 
--- src/segment.rt:71:9
 returns-3 : tie.Need-returns-3
 returns-3 c = (sym (ap (answerTo _) (segment-short _ _ (c .before .before .before .before .if1 .left) (c .before .before .if2 .left) (rw (c .before .control-fields .ensures .0) at (c .if3 .taken)))), λ raw run next e. not-read (ap toldSegment e))
 
--- src/segment.rt:76:15
 last-decoded-byte-requires : tie.Need-last-decoded-byte-requires
 last-decoded-byte-requires c κs = search needs
 
--- src/segment.rt:57:1
 returns-4 : tie.Need-returns-4
 returns-4 c =
     let f = c .before .before in
@@ -52,7 +39,7 @@ returns-4 c =
     let e = f .control-fields .ensures in
     let few = stands (getD (a .src .now) (a .at) 0) .few (omega (arith, f .before .before .shared-slice-known2 .given (a .at))) in (
       read-at (a .src .now) (a .at) (a .last) (f .control-fields .result .raw) (f .control-fields .result .run) (c .last-decoded-byte .result)
-      (f .before .before .before .if1 .left) (f .before .if2 .left) (e .0) (e .1) (c .before .if3 .left) (c .last-decoded-byte .ensures),
+          (f .before .before .before .if1 .left) (f .before .if2 .left) (e .0) (e .1) (c .before .if3 .left) (c .last-decoded-byte .ensures),
       λ raw run next q. let p : f .control-fields .result .raw ≡ raw = cc in let n : f .control-fields .result .run ≡ run = cc in omega arith,
     )
 

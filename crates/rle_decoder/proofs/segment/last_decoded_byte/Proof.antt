@@ -3,22 +3,16 @@ use Rattle.rle_format.proofs.Segment.{last-at}
 use borrow.Author.Needs.{needs}
 use Rattle.rle_decoder.proofs.segment.last_decoded_byte.Statement.{statement}
 use Rattle.rle_decoder.proofs.segment.last_decoded_byte.Tie as tie
-use Rattle.rle_decoder.proofs.segment.last_decoded_byte.Reads as reads
-use Rattle.rle_decoder.proofs.segment.last_decoded_byte.Lts as lts
 
--- src/segment.rt:50:9
 returns : tie.Need-returns
 returns c = search needs
 
--- src/segment.rt:52:9
 add-result : tie.Need-add-result
 add-result c = search needs
 
--- src/segment.rt:52:5
 shared-slice-read-result : tie.Need-shared-slice-read-result
 shared-slice-read-result c = search needs
 
--- src/segment.rt:45:1
 returns-2 : tie.Need-returns-2
 returns-2 c = sym (last-at _ _ _ _ (c .before .if1 .left) (c .before .before .pre))
 
