@@ -1,6 +1,7 @@
--- The twelve numbers tell the refusals apart, so that a contract `told r ≡ a` determines r.
+-- The twelve numbers tell the refusals apart, so that a contract `told r ≡ a` determines r; and none is over 12.
 use mathlib.Core.Path.{_≡_, refl, sym, ap, _∙_}
-use Prim.Native.Nat.{ℕ}
+use Prim.Native.Nat.{ℕ, _≤_}
+use native.Mathlib.Omega.{arith}
 use lib.Dec.{eqb}
 use Rattle.rle_format.specs.Choice.{choose}
 use Rattle.rle_format.specs.declared.Refusal.{Refusal}
@@ -38,6 +39,20 @@ refusal-number SegmentDoNotFitScanline = refl
 refusal-number ShortPlane = refl
 refusal-number NotEnoughBytes = refl
 refusal-number BufferTooSmall = refl
+
+pub numbers-few : (r : Refusal) → number r ≤ 12
+numbers-few ZeroSize = omega arith
+numbers-few TooLarge = omega arith
+numbers-few LossLevel = omega arith
+numbers-few InvalidUncompressedDataSize = omega arith
+numbers-few ShortWork = omega arith
+numbers-few ShortImage = omega arith
+numbers-few ReadCompressedData = omega arith
+numbers-few InvalidSegmentHeader = omega arith
+numbers-few SegmentDoNotFitScanline = omega arith
+numbers-few ShortPlane = omega arith
+numbers-few NotEnoughBytes = omega arith
+numbers-few BufferTooSmall = omega arith
 
 pub numbers-apart : (r s : Refusal) → number r ≡ number s → r ≡ s
 numbers-apart r s e = sym (refusal-number r) ∙ ap refusal e ∙ refusal-number s

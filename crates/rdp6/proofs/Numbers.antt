@@ -1,0 +1,30 @@
+-- The numbers that C is given fit 64 bits. Assumes nothing.
+use mathlib.Core.Path.{_≡_, refl, sym, ap, _∙_}
+use Prim.Native.Nat.{ℕ, zero, suc, _≤_, _<_}
+use native.Mathlib.Omega.{arith}
+use lib.IntN.{ℤ, pos, negℤ, _-ℤ_, +ℤ-idl}
+use mir.Facts.{toZ-pos}
+use mir.Val.{SFits, toZ}
+use mir.Syntax.{w64}
+use Rattle.rle_format.specs.declared.Unpacked.{Unpacked}
+use Rattle.rle_format.specs.declared.Unpacked.the-variants.{Read, Refused}
+use Rattle.rle_format.specs.Answer.{number, told}
+use Rattle.rle_format.proofs.Answer.{numbers-few}
+use Rattle.rdp6.specs.Number.{cNumber}
+
+pub count-fits : (n : ℕ) → n ≤ 134217728 → SFits w64 (pos n)
+count-fits n h = record { sfits = omega arith }
+
+pub refusal-fits : (r : ℕ) → r ≤ 12 → SFits w64 (negℤ (pos r))
+refusal-fits zero h = record { sfits = omega arith }
+refusal-fits (suc r) h = record { sfits = omega arith }
+
+-- what the code computes of a refusal's number n, a byte that it has widened
+pub minus-is : (n r : ℕ) → n ≡ r → r ≤ 12 → pos 0 -ℤ toZ w64 n ≡ negℤ (pos r)
+minus-is n r e h =
+    let z : toZ w64 n ≡ pos n = toZ-pos w64 (omega arith) in
+    ap (λ (k : ℤ). pos 0 -ℤ k) z ∙ +ℤ-idl (negℤ (pos n)) ∙ ap (λ (k : ℕ). negℤ (pos k)) e
+
+pub answer-fits : (a : Unpacked) → ((n : ℕ) → a ≡ Read n → n ≤ 134217728) → SFits w64 (cNumber (told a))
+answer-fits (Read n) h = count-fits n (h n refl)
+answer-fits (Refused r) h = refusal-fits (number r) (numbers-few r)
