@@ -6,7 +6,7 @@ use native.Mathlib.Omega.{arith}
 use lib.ListN.{length, take, drop, getD, length-drop}
 use lib.Seq.{length-take-le, drop-drop}
 use Rattle.rle_format.specs.Segment.{Segment, lastOf, after, values, count, rawCount, runLength, SegmentRead, segment, no-segment, readSegment}
-use Rattle.rle_format.proofs.Segment.{seen, segment-read}
+use Rattle.rle_format.proofs.Segment.{seen, segment-read, segment-short}
 use Rattle.rle_decoder.specs.NextSegment.{SegmentAnswer, read, refused-by, answerTo}
 
 -- a refusal is no segment that was read
@@ -22,6 +22,11 @@ read-at s at before raw run last h z er en there el =
     (λ i. read (sym n i) (en i) (el i))
     ∙ ap (λ (k : ℕ). read (length (take k (drop (at + 1) s))) (runLength (getD s at 0)) (lastOf before (take k (drop (at + 1) s)))) er
     ∙ sym (ap (answerTo before) e)
+
+-- the answer where raw bytes are missing
+pub short-at : (s : List ℕ) (at before raw : ℕ) → at < length s → (getD s at 0 ≡ 0 → ⊥) → raw ≡ rawCount (getD s at 0) → length s - at - 1 < raw
+    → refused-by 7 ≡ answerTo before (readSegment (drop at s))
+short-at s at before raw h z er short = sym (ap (answerTo before) (segment-short s at h z (rw er at short)))
 
 -- what an answer says of the body at a position: a segment of so many raw bytes and such a run lies within it
 pub record Found (s : List ℕ) (at before raw run last : ℕ) : Type 0 where

@@ -1,8 +1,8 @@
 use Rattle.rdp6.proofs.Numbers.{minus-is, count-fits, refusal-fits}
-use mathlib.Core.Path.{sym, ap, _∙_}
+use mathlib.Core.Path.{sym, ap, _∙_, subst}
 use lib.IntN.{ℤ}
 use mir.Facts.{toZ-ofZ, toZ-pos}
-use mir.Val.{toZ, ofZ}
+use mir.Val.{SFits, toZ, ofZ}
 use mir.Syntax.{w64}
 use native.Mathlib.Omega.{arith}
 use Rattle.rle_format.specs.declared.Unpacked.{Unpacked}
@@ -31,7 +31,8 @@ cast-result-2 c = search needs
 sub-result : tie.Need-sub-result
 sub-result c =
     let r = c .before .before .answer2 .given .0 .0 in
-    rw (minus-is (c .number-of .result) (number r) (c .number-of .ensures) (numbers-few r)) (refusal-fits (number r) (numbers-few r))
+    let m = minus-is (c .number-of .result) (number r) (c .number-of .ensures) (numbers-few r) in
+    subst (λ (z : ℤ). SFits w64 z) (sym m) (refusal-fits (number r) (numbers-few r))
 
 returns : tie.Need-returns
 returns c = toZ-pos w64 (omega (arith, c .before .before .before .pre _ (c .before .answer .given .1))) ∙ sym (ap (λ (a : Unpacked). cNumber (told a)) (c .before .answer .given .1))

@@ -1,5 +1,5 @@
-use Rattle.rle_format.proofs.Segment.{stands, segment-end, segment-zero, segment-short}
-use Rattle.rle_decoder.proofs.Segments.{not-read, read-at}
+use Rattle.rle_format.proofs.Segment.{stands, segment-end, segment-zero}
+use Rattle.rle_decoder.proofs.Segments.{not-read, read-at, short-at}
 use Rattle.rle_decoder.specs.NextSegment.{answerTo, toldSegment}
 use mathlib.Core.Path.{_≡_, sym, ap}
 use native.Mathlib.Omega.{arith}
@@ -27,7 +27,10 @@ sub-if3-2 : tie.Need-sub-if3-2
 sub-if3-2 c = search needs
 
 returns-3 : tie.Need-returns-3
-returns-3 c = (sym (ap (answerTo _) (segment-short _ _ (c .before .before .before .before .if1 .left) (c .before .before .if2 .left) (rw (c .before .control-fields .ensures .0) at (c .if3 .taken)))), λ raw run next e. not-read (ap toldSegment e))
+returns-3 c =
+    let f = c .before in
+    let a = f .before .before .before .before .before .args in
+    (short-at (a .src .now) (a .at) (a .last) (f .control-fields .result .raw) (f .before .before .before .if1 .left) (f .before .if2 .left) (f .control-fields .ensures .0) (c .if3 .taken), λ raw run next e. not-read (ap toldSegment e))
 
 last-decoded-byte-requires : tie.Need-last-decoded-byte-requires
 last-decoded-byte-requires c κs = search needs
