@@ -1,0 +1,97 @@
+//! Makes a case that differs smaller, as long as it still differs.
+
+use crate::case::Owned;
+use crate::check::{Comparer, Difference};
+
+/// A wide plane has many smaller ones; after so many attempts the smallest so far has to do.
+const ATTEMPTS: usize = 200_000;
+
+/// The smallest case that this finds to differ, in whatever way.
+pub fn shrink(comparer: &mut Comparer, found: Box<Difference>) -> Box<Difference> {
+    let mut best = found;
+    let mut attempts = 0;
+    while let Some(smaller) = smaller_difference(comparer, &best.case, &mut attempts) {
+        best = smaller;
+    }
+    best
+}
+
+/// The first smaller case that differs too.
+fn smaller_difference(comparer: &mut Comparer, case: &Owned, attempts: &mut usize) -> Option<Box<Difference>> {
+    for smaller in smaller_cases(case) {
+        *attempts += 1;
+        if *attempts > ATTEMPTS {
+            return None;
+        }
+        if let Err(difference) = comparer.look(smaller.view()) {
+            return Some(difference);
+        }
+    }
+    None
+}
+
+/// Smaller cases, the boldest first. Each lowers a side, a length or a byte and raises none, so shrinking ends.
+fn smaller_cases(case: &Owned) -> impl Iterator<Item = Owned> + '_ {
+    with_lower_sides(case)
+        .chain(with_shorter_destination(case))
+        .chain(with_shorter_body(case))
+        .chain(with_plain_destination(case))
+        .chain(with_lower_bytes(case))
+}
+
+/// Numbers under `value`, the lowest first.
+fn lower(value: usize) -> impl Iterator<Item = usize> {
+    let candidates = [0, 1, value / 2, value.saturating_sub(1)];
+    candidates.into_iter().filter(move |&candidate| candidate < value)
+}
+
+/// Lower widths and heights. The destination keeps what it has beyond the plane, or what it lacks.
+fn with_lower_sides(case: &Owned) -> impl Iterator<Item = Owned> + '_ {
+    let widths = lower(case.width).map(|width| (width, case.height));
+    let heights = lower(case.height).map(|height| (case.width, height));
+    widths.chain(heights).map(|(width, height)| {
+        let spared = case.width.saturating_mul(case.height).saturating_sub(width.saturating_mul(height));
+        let mut before = case.before.clone();
+        before.truncate(case.before.len().saturating_sub(spared));
+        Owned { width, height, body: case.body.clone(), before }
+    })
+}
+
+fn with_shorter_destination(case: &Owned) -> impl Iterator<Item = Owned> + '_ {
+    let plane = case.width.saturating_mul(case.height);
+    let exact = Some(plane).filter(|&exact| exact < case.before.len());
+    exact.into_iter().chain(lower(case.before.len())).map(|room| {
+        let mut smaller = case.clone();
+        smaller.before.truncate(room);
+        smaller
+    })
+}
+
+/// Bodies with a piece left out: first halves, at last single bytes.
+fn with_shorter_body(case: &Owned) -> impl Iterator<Item = Owned> + '_ {
+    let len = case.body.len();
+    let sizes = std::iter::successors(Some(len), |&size| Some(size / 2)).take_while(|&size| size > 0);
+    sizes.flat_map(move |size| {
+        (0..len).step_by(size).map(move |from| {
+            let mut smaller = case.clone();
+            smaller.body.drain(from..(from + size).min(len));
+            smaller
+        })
+    })
+}
+
+/// A destination of `EE` alone is easier to read.
+fn with_plain_destination(case: &Owned) -> impl Iterator<Item = Owned> + '_ {
+    let plain = vec![0xEE; case.before.len()];
+    (plain != case.before).then(|| Owned { before: plain, ..case.clone() }).into_iter()
+}
+
+fn with_lower_bytes(case: &Owned) -> impl Iterator<Item = Owned> + '_ {
+    (0..case.body.len()).flat_map(move |at| {
+        lower(usize::from(case.body[at])).map(move |byte| {
+            let mut smaller = case.clone();
+            smaller.body[at] = byte as u8;
+            smaller
+        })
+    })
+}
