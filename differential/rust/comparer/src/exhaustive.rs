@@ -23,11 +23,11 @@ const FEW: [u8; 9] = [0x00, 0x01, 0x03, 0x10, 0x13, 0x20, 0x11, 0x04, 0xF0];
 pub fn run(comparer: &mut Comparer) -> Outcome {
     let earlier = &mut Earlier::new();
     refused_sides(comparer, earlier)?;
-    destination_lengths(comparer, earlier)?;
     short_bodies(comparer, earlier)?;
     bodies_over(comparer, earlier, &ALPHABET, 3, &SHORT_WIDTHS, 3)?;
     bodies_over(comparer, earlier, &ALPHABET, 4, &[1, 3, 4, 17], 2)?;
     bodies_over(comparer, earlier, &FEW, 5, &[1, 2, 3, 4, 5, 17, 20], 3)?;
+    destination_lengths(comparer, earlier)?;
     largest_planes(comparer, earlier)
 }
 

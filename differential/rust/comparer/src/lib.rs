@@ -9,6 +9,7 @@ pub mod lend;
 pub mod planes;
 pub mod random;
 pub mod rng;
+pub mod rows;
 pub mod shrink;
 pub mod tally;
 

@@ -2,6 +2,7 @@
 
 use crate::case::Owned;
 use crate::check::{Comparer, Difference};
+use crate::rows::Rows;
 
 /// A wide plane has many smaller ones; after so many attempts the smallest so far has to do.
 const ATTEMPTS: usize = 200_000;
@@ -30,13 +31,16 @@ fn smaller_difference(comparer: &mut Comparer, case: &Owned, attempts: &mut usiz
     None
 }
 
-/// Smaller cases, the boldest first. Each lowers a side, a length or a byte and raises none, so shrinking ends.
+/// Smaller cases, the boldest first. Of sides, body length, destination length, bytes and the destination's content each
+/// lowers one and none that stands before it, so shrinking ends.
 fn smaller_cases(case: &Owned) -> impl Iterator<Item = Owned> + '_ {
     with_lower_sides(case)
-        .chain(with_shorter_destination(case))
+        .chain(narrower(case))
+        .chain(without_a_row(case))
         .chain(with_shorter_body(case))
-        .chain(with_plain_destination(case))
+        .chain(with_shorter_destination(case))
         .chain(with_lower_bytes(case))
+        .chain(with_plain_destination(case))
 }
 
 /// Numbers under `value`, the lowest first.
@@ -45,16 +49,31 @@ fn lower(value: usize) -> impl Iterator<Item = usize> {
     candidates.into_iter().filter(move |&candidate| candidate < value)
 }
 
-/// Lower widths and heights. The destination keeps what it has beyond the plane, or what it lacks.
+/// The case with other sides and another body. The destination keeps what it has beyond the plane, or what it lacks.
+fn resized(case: &Owned, width: usize, height: usize, body: Vec<u8>) -> Owned {
+    let spared = case.width.saturating_mul(case.height).saturating_sub(width.saturating_mul(height));
+    let mut before = case.before.clone();
+    before.truncate(case.before.len().saturating_sub(spared));
+    Owned { width, height, body, before }
+}
+
+/// Lower widths and heights for the same body.
 fn with_lower_sides(case: &Owned) -> impl Iterator<Item = Owned> + '_ {
     let widths = lower(case.width).map(|width| (width, case.height));
     let heights = lower(case.height).map(|height| (case.width, height));
-    widths.chain(heights).map(|(width, height)| {
-        let spared = case.width.saturating_mul(case.height).saturating_sub(width.saturating_mul(height));
-        let mut before = case.before.clone();
-        before.truncate(case.before.len().saturating_sub(spared));
-        Owned { width, height, body: case.body.clone(), before }
-    })
+    widths.chain(heights).map(|(width, height)| resized(case, width, height, case.body.clone()))
+}
+
+/// Lower widths, the body's segments cut to them.
+fn narrower(case: &Owned) -> impl Iterator<Item = Owned> + '_ {
+    let rows = Rows::of(case);
+    lower(case.width).map(move |width| resized(case, width, case.height, rows.body(width, None)))
+}
+
+/// One row fewer, its segments left out of the body.
+fn without_a_row(case: &Owned) -> impl Iterator<Item = Owned> + '_ {
+    let rows = Rows::of(case);
+    (0..rows.count()).map(move |row| resized(case, case.width, case.height - 1, rows.body(case.width, Some(row))))
 }
 
 fn with_shorter_destination(case: &Owned) -> impl Iterator<Item = Owned> + '_ {
