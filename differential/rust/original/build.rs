@@ -28,7 +28,8 @@ fn file_of(folder: &Path, name: &str) -> PathBuf {
 fn main() {
     let rle = file_of(&source_folder(), "rdp6/rle.rs");
     // What nothing here calls yet would be warned of, in a file that is not ours to change.
-    let modules = format!("#[allow(dead_code)]\npub(crate) mod rdp6 {{\n    #[path = {rle:?}]\n    pub(crate) mod rle;\n}}\n");
+    let modules =
+        format!("#[allow(dead_code)]\npub(crate) mod rdp6 {{\n    #[path = {rle:?}]\n    pub(crate) mod rle;\n}}\n");
     let out = PathBuf::from(env::var_os("OUT_DIR").unwrap()).join("modules.rs");
     fs::write(out, modules).unwrap();
 }

@@ -22,7 +22,10 @@ const PLACES: [(&str, &[&str]); 5] = [
         "the destination ends in the first row",
         &["pu 4 1 1307 EE*3", "pu 4 1 100510061007 EE*2", "pu 4 1 - -", "pu 4 1 00 -", "pu 4 1 14 -", "pu 4 1 1407 -"],
     ),
-    ("the destination ends in a later row", &["pu 2 2 2001022002 EE*2", "pu 2 2 2001022002 EE*3", "pu 2 2 200102 EE*3"]),
+    (
+        "the destination ends in a later row",
+        &["pu 2 2 2001022002 EE*2", "pu 2 2 2001022002 EE*3", "pu 2 2 200102 EE*3", "pu 2 3 20010200 EE*4"],
+    ),
 ];
 
 /// Runs the whole table.

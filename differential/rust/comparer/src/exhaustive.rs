@@ -13,9 +13,8 @@ const SHORT_WIDTHS: [usize; 25] =
     [1, 2, 3, 4, 5, 6, 7, 8, 9, 10, 11, 12, 13, 14, 15, 16, 17, 18, 19, 20, 31, 32, 33, 47, 48];
 
 /// Control bytes of every form, which are values just as well.
-const ALPHABET: [u8; 18] = [
-    0x00, 0x01, 0x02, 0x03, 0x04, 0x0F, 0x10, 0x11, 0x12, 0x13, 0x20, 0x21, 0xF0, 0xF1, 0xF2, 0xFF, 0x1F, 0x30,
-];
+const ALPHABET: [u8; 18] =
+    [0x00, 0x01, 0x02, 0x03, 0x04, 0x0F, 0x10, 0x11, 0x12, 0x13, 0x20, 0x21, 0xF0, 0xF1, 0xF2, 0xFF, 0x1F, 0x30];
 /// A smaller one for longer bodies.
 const FEW: [u8; 9] = [0x00, 0x01, 0x03, 0x10, 0x13, 0x20, 0x11, 0x04, 0xF0];
 
@@ -110,13 +109,15 @@ fn destination_lengths(comparer: &mut Comparer, earlier: &mut Earlier) -> Outcom
     Ok(())
 }
 
+#[rustfmt::skip]
+const SIDES: [usize; 16] = [
+    0, 1, 2, 3, MOST - 1, MOST, MOST + 1, 9000, 16384, 65536, 1 << 32, (1 << 32) + 1, 1 << 62, usize::MAX / 2 + 1,
+    usize::MAX - 1, usize::MAX,
+];
+
 /// Sides of which one at least is refused, or that ask for more than any destination: also those whose product does not
 /// fit a word, or wraps to a small number.
 fn refused_sides(comparer: &mut Comparer, earlier: &mut Earlier) -> Outcome {
-    const SIDES: [usize; 16] = [
-        0, 1, 2, 3, MOST - 1, MOST, MOST + 1, 9000, 16384, 65536, 1 << 32, (1 << 32) + 1, 1 << 62, usize::MAX / 2 + 1,
-        usize::MAX - 1, usize::MAX,
-    ];
     const BODIES: [&[u8]; 6] = [&[], &[0], &[0x10, 5], &[3], &[0x03, 0x03, 0x03, 0x03], &[0xF2; 40]];
     for width in SIDES {
         for height in SIDES {

@@ -116,7 +116,7 @@ pub enum Side {
 
 pub const SIDES: [Side; 2] = [Side::End, Side::Start];
 
-/// Pages for slices that need just so many.
+/// Pages for slices that need so many.
 struct Region {
     start: *mut u8,
     len: usize,
@@ -167,25 +167,30 @@ impl Region {
         self.slice(self.offset(len, side), len)
     }
 
-    /// Whether what is not lent, less than a page or just one, still holds its canaries.
+    /// Whether what is not lent still holds its canaries.
     fn canaries_live(&self, len: usize, side: Side) -> bool {
-        let rest = self.len - len;
-        match side {
-            Side::Start => self.slice(len, rest) == &CANARIES[PAGE - rest..],
-            Side::End => self.slice(0, rest) == &CANARIES[..rest],
+        let (mut at, end) = match side {
+            Side::Start => (len, self.len),
+            Side::End => (0, self.len - len),
+        };
+        while at < end {
+            let to = end.min((at / PAGE + 1) * PAGE);
+            if self.slice(at, to - at) != &CANARIES[at % PAGE..][..to - at] {
+                return false;
+            }
+            at = to;
         }
+        true
     }
 
-    /// Puts canaries where the slice lay. Only the first and the last page can be outside another slice of this region.
+    /// Puts canaries where the slice lay.
     fn take_back(&self, len: usize, side: Side) {
-        let (from, count) = if self.len == PAGE { (self.offset(len, side), len) } else { (0, PAGE) };
-        // SAFETY: in the first page, or the whole first and the whole last page.
-        unsafe {
-            ptr::copy_nonoverlapping(CANARIES[from..].as_ptr(), self.start.add(from), count);
-            if self.len > PAGE {
-                ptr::copy_nonoverlapping(CANARIES.as_ptr(), self.start.add(self.len - PAGE), PAGE);
-            }
+        if self.len > PAGE {
+            return self.fill_with_canaries();
         }
+        let from = self.offset(len, side);
+        // SAFETY: where the slice lay in the only page.
+        unsafe { ptr::copy_nonoverlapping(CANARIES[from..].as_ptr(), self.start.add(from), len) };
     }
 
     /// Closes the forbidden pages on both sides again and renews all canaries.
@@ -215,8 +220,14 @@ pub struct Lender {
     destinations: Vec<Option<Region>>,
 }
 
+/// Slices of more pages than this share regions of twice the size, or there would be one for every length of a large plane.
+const EXACT_PAGES: usize = 64;
+
 fn region_for(regions: &mut Vec<Option<Region>>, len: usize) -> &Region {
-    let pages = len.div_ceil(PAGE).max(1);
+    let pages = match len.div_ceil(PAGE).max(1) {
+        few @ ..=EXACT_PAGES => few,
+        many => many.next_power_of_two(),
+    };
     if regions.len() <= pages {
         regions.resize_with(pages + 1, || None);
     }

@@ -3,8 +3,7 @@
 use crate::rng::Rng;
 
 /// Widths around which a segment's counts change: 15 raw bytes, runs of 16, 32 and 47, and the longest side.
-pub const WIDTHS: [usize; 22] =
-    [1, 2, 3, 4, 14, 15, 16, 17, 18, 30, 31, 32, 33, 46, 47, 48, 49, 62, 63, 64, 65, 95];
+pub const WIDTHS: [usize; 22] = [1, 2, 3, 4, 14, 15, 16, 17, 18, 30, 31, 32, 33, 46, 47, 48, 49, 62, 63, 64, 65, 95];
 
 /// What a plane looks like.
 #[derive(Clone, Copy, Debug)]

@@ -3,50 +3,42 @@
 use crate::case::Owned;
 use crate::check::{Comparer, Difference};
 use crate::rows::Rows;
+use std::time::{Duration, Instant};
 
-/// A wide plane has many smaller ones; after so many attempts the smallest so far has to do.
-const ATTEMPTS: usize = 200_000;
+/// A large plane has many smaller ones; after this time the smallest so far has to do.
+const LONGEST: Duration = Duration::from_secs(30);
 
 /// The smallest case that this finds to differ, in whatever way.
 pub fn shrink(comparer: &mut Comparer, found: Box<Difference>) -> Box<Difference> {
+    let end = Instant::now() + LONGEST;
     let mut best = found;
-    let mut attempts = 0;
-    while let Some(smaller) = smaller_difference(comparer, &best.case, &mut attempts) {
+    while let Some(smaller) = smaller_difference(comparer, &best.case, end) {
         best = smaller;
     }
     best
 }
 
 /// The first smaller case that differs too.
-fn smaller_difference(comparer: &mut Comparer, case: &Owned, attempts: &mut usize) -> Option<Box<Difference>> {
-    for smaller in smaller_cases(case) {
-        *attempts += 1;
-        if *attempts > ATTEMPTS {
-            return None;
-        }
-        if let Err(difference) = comparer.look(smaller.view()) {
-            return Some(difference);
-        }
-    }
-    None
+fn smaller_difference(comparer: &mut Comparer, case: &Owned, end: Instant) -> Option<Box<Difference>> {
+    smaller_cases(case).take_while(|_| Instant::now() < end).find_map(|smaller| comparer.look(smaller.view()).err())
 }
 
 /// Smaller cases, the boldest first. Of sides, body length, destination length, bytes and the destination's content each
 /// lowers one and none that stands before it, so shrinking ends.
 fn smaller_cases(case: &Owned) -> impl Iterator<Item = Owned> + '_ {
     with_lower_sides(case)
+        .chain(with_shorter_body(case))
         .chain(narrower(case))
         .chain(without_a_row(case))
-        .chain(with_shorter_body(case))
         .chain(with_shorter_destination(case))
         .chain(with_lower_bytes(case))
         .chain(with_plain_destination(case))
 }
 
-/// Numbers under `value`, the lowest first.
+/// Numbers under `value`, the lowest first: 0, 1, a half, then nearer and nearer to it.
 fn lower(value: usize) -> impl Iterator<Item = usize> {
-    let candidates = [0, 1, value / 2, value.saturating_sub(1)];
-    candidates.into_iter().filter(move |&candidate| candidate < value)
+    let steps = std::iter::successors(Some(value / 2), |&step| Some(step / 2)).take_while(|&step| step > 0);
+    [0, 1].into_iter().chain(steps.map(move |step| value - step)).filter(move |&candidate| candidate < value)
 }
 
 /// The case with other sides and another body. The destination keeps what it has beyond the plane, or what it lacks.
@@ -57,11 +49,11 @@ fn resized(case: &Owned, width: usize, height: usize, body: Vec<u8>) -> Owned {
     Owned { width, height, body, before }
 }
 
-/// Lower widths and heights for the same body.
+/// Lower heights and widths for the same body. Heights go first: what is left out below changes nothing above.
 fn with_lower_sides(case: &Owned) -> impl Iterator<Item = Owned> + '_ {
     let widths = lower(case.width).map(|width| (width, case.height));
     let heights = lower(case.height).map(|height| (case.width, height));
-    widths.chain(heights).map(|(width, height)| resized(case, width, height, case.body.clone()))
+    heights.chain(widths).map(|(width, height)| resized(case, width, height, case.body.clone()))
 }
 
 /// Lower widths, the body's segments cut to them.
@@ -86,10 +78,13 @@ fn with_shorter_destination(case: &Owned) -> impl Iterator<Item = Owned> + '_ {
     })
 }
 
+/// A body is cut into at most so many pieces, so that a long one loses pieces of some size first.
+const PIECES: usize = 512;
+
 /// Bodies with a piece left out: first halves, at last single bytes.
 fn with_shorter_body(case: &Owned) -> impl Iterator<Item = Owned> + '_ {
     let len = case.body.len();
-    let sizes = std::iter::successors(Some(len), |&size| Some(size / 2)).take_while(|&size| size > 0);
+    let sizes = std::iter::successors(Some(len), |&size| Some(size / 2)).take_while(move |&size| size > len / PIECES);
     sizes.flat_map(move |size| {
         (0..len).step_by(size).map(move |from| {
             let mut smaller = case.clone();

@@ -301,7 +301,7 @@ fn refusal_2_before_1() {
 
 #[test]
 fn a_product_of_sides_that_wraps() {
-    is_found(unpacker::<PRODUCT_WRAPS>, "pu 8 8192 - -");
+    is_found(unpacker::<PRODUCT_WRAPS>, "pu 8192 8 - -");
 }
 
 #[test]
