@@ -52,6 +52,8 @@ static NEXT: AtomicUsize = AtomicUsize::new(0);
 thread_local! {
     /// The first forbidden address that this thread touched since it was last set to 0.
     static TOUCHED: Cell<usize> = const { Cell::new(0) };
+    /// The case of the call that this thread is in.
+    static CURRENT: Cell<*const Case<'static>> = const { Cell::new(ptr::null()) };
 }
 
 fn protect(at: usize, len: usize, prot: c_int) {
@@ -70,8 +72,17 @@ extern "C" fn on_fault(signal: c_int, info: *const Info, _context: *const c_void
         }
         protect(address / PAGE * PAGE, PAGE, PROT_READ_WRITE);
     } else {
-        // Not ours: the next attempt ends the program as it would have without this handler.
+        tell_current();
+        // The next attempt ends the program as it would have without this handler.
         set_handler(signal, 0, 0);
+    }
+}
+
+/// Says which case faults far from all that is lent: the program cannot go on.
+fn tell_current() {
+    // SAFETY: it is null, or the case of a call that has not come back.
+    if let Some(case) = unsafe { CURRENT.get().as_ref() } {
+        eprintln!("a fault far from what was lent, in\n  {}", case.to_owned());
     }
 }
 
@@ -250,8 +261,10 @@ impl Lender {
         let src = source.lend(case.body, side);
         let dst = destination.lend(case.before, side);
         TOUCHED.set(0);
+        CURRENT.set((&raw const case).cast());
         // SAFETY: both are lent for this call. That it keeps to them is what is tested.
         let answer = unsafe { unpacker(src, len, dst, room, case.width, case.height) };
+        CURRENT.set(ptr::null());
         after.clear();
         after.extend_from_slice(destination.lent(room, side));
         let harm = harm_done(source, destination, case, side);

@@ -141,7 +141,7 @@ impl Random {
             let wrong = match self.rng.below(4) {
                 0 | 1 => 0,
                 2 => MOST + self.rng.within(1, 1000),
-                _ => (self.rng.next() as usize) | (MOST << 1),
+                _ => (self.rng.word() as usize) | (MOST << 1),
             };
             match self.rng.below(3) {
                 0 => width = wrong,

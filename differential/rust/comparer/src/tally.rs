@@ -26,7 +26,7 @@ const KINDS: [(Kind, &str); 13] = [
     (Kind::Short, "all bodies of up to 2 bytes"),
     (Kind::Alphabet, "bodies of 3 to 5 bytes of a telling alphabet"),
     (Kind::Rooms, "every destination length around width x height"),
-    (Kind::Table, "a table of sides that are refused"),
+    (Kind::Table, "a table of sides, most of them refused"),
     (Kind::Largest, "planes of 8192 x 8192"),
     (Kind::Whole, "planes packed by the Rust, whole"),
     (Kind::Following, "packed planes with bytes following"),

@@ -82,7 +82,7 @@ fn counts_of<const MISTAKE: u8>(control: u8) -> (usize, usize) {
 }
 
 fn undelta(code: u8) -> u8 {
-    if code % 2 == 0 {
+    if code & 1 == 0 {
         code / 2
     } else {
         255 - code / 2
