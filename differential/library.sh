@@ -12,6 +12,7 @@ if [ -z "${RDP6_LIBRARY:-}" ]; then
         fi
     fi
 fi
-# A path from where the script was called, since cargo runs elsewhere.
+# Paths are meant from where the script was called; cargo runs elsewhere.
 RDP6_LIBRARY=$(realpath -m "$RDP6_LIBRARY")
 export RDP6_LIBRARY
+. "$here/source.sh"
