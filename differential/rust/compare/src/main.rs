@@ -1,0 +1,70 @@
+//! Compares the port's library with the Rust.
+//!
+//!   compare [SECONDS] [SEED]   the whole comparison
+//!   compare --case 'pu ...'    one case, both answers
+//!   compare --differences      what the Rust does outside document 01's domain, and what the port does
+
+mod differences;
+
+use comparer::exhaustive;
+use comparer::random::Random;
+use comparer::shrink::shrink;
+use comparer::{Comparer, Difference};
+use ours::rdp6_decompress_8bpp_plane;
+use std::process::ExitCode;
+use std::time::{Duration, Instant};
+
+const SECONDS: u64 = 10;
+const SEED: u64 = 6;
+
+fn main() -> ExitCode {
+    let words: Vec<String> = std::env::args().skip(1).collect();
+    let words: Vec<&str> = words.iter().map(String::as_str).collect();
+    match words[..] {
+        ["--differences"] => differences::print_all(),
+        ["--case", case] => differences::print_one(case),
+        [] => compare(SECONDS, SEED),
+        [seconds] => with_numbers(seconds, "6"),
+        [seconds, seed] => with_numbers(seconds, seed),
+        _ => usage(),
+    }
+}
+
+fn usage() -> ExitCode {
+    eprintln!("usage: run [SECONDS] [SEED] | run --case 'pu WIDTH HEIGHT BODY DST' | run --differences");
+    ExitCode::from(2)
+}
+
+fn with_numbers(seconds: &str, seed: &str) -> ExitCode {
+    match (seconds.parse(), seed.parse()) {
+        (Ok(seconds), Ok(seed)) => compare(seconds, seed),
+        _ => usage(),
+    }
+}
+
+/// Compares until the time is over, the part that is the same every time always whole.
+fn compare(seconds: u64, seed: u64) -> ExitCode {
+    println!("plane unpacking: the Rust's decompress_8bpp_plane and the library's rdp6_decompress_8bpp_plane");
+    println!("{seconds} seconds, seed {seed}; each case is called twice, its slices at either end of guarded pages");
+    let begin = Instant::now();
+    let mut comparer = Comparer::new(rdp6_decompress_8bpp_plane);
+    let outcome = all_cases(&mut comparer, begin + Duration::from_secs(seconds), seed);
+    println!("{}", comparer.tally);
+    let total = comparer.tally.total();
+    let Err(difference) = outcome else {
+        println!("{total} compared, 0 different");
+        return ExitCode::SUCCESS;
+    };
+    println!("{}", shrink(&mut comparer, difference));
+    println!("{total} compared, 1 different, the last; nothing was compared after it");
+    ExitCode::FAILURE
+}
+
+fn all_cases(comparer: &mut Comparer, end: Instant, seed: u64) -> Result<(), Box<Difference>> {
+    exhaustive::run(comparer)?;
+    let mut random = Random::new(seed);
+    while Instant::now() < end {
+        random.round(comparer)?;
+    }
+    Ok(())
+}

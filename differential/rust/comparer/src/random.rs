@@ -1,0 +1,157 @@
+//! The part that goes on until the time is over.
+
+use crate::case::{Case, MOST};
+use crate::check::{Comparer, Difference};
+use crate::planes::{self, Earlier, Making, LOOKS};
+use crate::rng::Rng;
+use crate::tally::Kind;
+
+type Outcome = Result<(), Box<Difference>>;
+
+/// Packings up to this length are cut at every place, longer ones at some.
+const CUT_EVERYWHERE: usize = 160;
+
+/// Random cases from one seed.
+pub struct Random {
+    rng: Rng,
+    earlier: Earlier,
+}
+
+impl Random {
+    pub fn new(seed: u64) -> Self {
+        Random { rng: Rng::new(seed), earlier: Earlier::new() }
+    }
+
+    /// Some cases of one kind.
+    pub fn round(&mut self, comparer: &mut Comparer) -> Outcome {
+        match self.rng.below(8) {
+            0..=3 => self.packed(comparer),
+            4 => self.made(comparer, false),
+            5 => self.made(comparer, true),
+            6 => self.noise(comparer),
+            _ => self.outside(comparer),
+        }
+    }
+
+    /// A destination length: exact, longer by one or some, and sometimes too short.
+    fn room(&mut self, samples: usize) -> usize {
+        match self.rng.below(12) {
+            0..=4 => samples,
+            5..=7 => samples + 1,
+            8 | 9 => samples + self.rng.within(2, 100),
+            10 => samples - 1,
+            _ => *self.rng.pick(&[0, samples / 2]),
+        }
+    }
+
+    fn compare(
+        &mut self,
+        comparer: &mut Comparer,
+        kind: Kind,
+        body: &[u8],
+        (width, height): (usize, usize),
+    ) -> Outcome {
+        let room = self.room(width * height);
+        comparer.compare(kind, Case { width, height, body, before: self.earlier.bytes(room) })
+    }
+
+    /// A plane that the Rust packs: whole, with bytes following, cut, damaged.
+    fn packed(&mut self, comparer: &mut Comparer) -> Outcome {
+        let (width, height) = planes::sides(&mut self.rng);
+        let sides = (width, height);
+        let look = *self.rng.pick(&LOOKS);
+        let plane = planes::samples(&mut self.rng, look, width, height);
+        let packed = original::pack(&plane, width, height).expect("a whole plane with room");
+        for room in [0, 1, self.rng.within(2, 5000)].map(|more| width * height + more) {
+            let before = self.earlier.bytes(room);
+            comparer.compare(Kind::Whole, Case { width, height, body: &packed, before })?;
+        }
+        let more = self.rng.within(1, 40);
+        let following = [&packed[..], &self.rng.bytes(more)].concat();
+        self.compare(comparer, Kind::Following, &following, sides)?;
+        self.cut(comparer, &packed, sides)?;
+        self.damaged(comparer, &packed, sides)
+    }
+
+    /// The first bytes of a packing.
+    fn cut(&mut self, comparer: &mut Comparer, packed: &[u8], sides: (usize, usize)) -> Outcome {
+        if packed.len() <= CUT_EVERYWHERE {
+            for len in 0..packed.len() {
+                self.compare(comparer, Kind::Cut, &packed[..len], sides)?;
+            }
+            return Ok(());
+        }
+        for _ in 0..6 {
+            let len = self.rng.below(packed.len());
+            self.compare(comparer, Kind::Cut, &packed[..len], sides)?;
+        }
+        self.compare(comparer, Kind::Cut, &packed[..packed.len() - 1], sides)
+    }
+
+    /// A packing with 1 to 3 bytes changed.
+    fn damaged(&mut self, comparer: &mut Comparer, packed: &[u8], sides: (usize, usize)) -> Outcome {
+        let variants = if packed.len() > 2000 { 3 } else { 24 };
+        for _ in 0..variants {
+            let mut body = packed.to_vec();
+            for _ in 0..self.rng.within(1, 3) {
+                let at = self.rng.below(body.len());
+                body[at] = match self.rng.below(4) {
+                    0 => 0,
+                    1 => body[at] ^ (1 << self.rng.below(8)),
+                    2 => body[at].wrapping_add(1),
+                    _ => self.rng.byte(),
+                };
+            }
+            self.compare(comparer, Kind::Damaged, &body, sides)?;
+        }
+        Ok(())
+    }
+
+    /// A body made segment by segment, mostly right; also cut, since no encoder here writes its like.
+    fn made(&mut self, comparer: &mut Comparer, opening_runs: bool) -> Outcome {
+        let kind = if opening_runs { Kind::OpeningRuns } else { Kind::Segments };
+        let (width, height) = planes::sides(&mut self.rng);
+        for wrong_once_in in [usize::MAX, 40, 8] {
+            let making = Making { opening_runs, wrong_once_in };
+            let body = planes::made_body(&mut self.rng, making, width, height);
+            self.compare(comparer, kind, &body, (width, height))?;
+            for _ in 0..6 {
+                let len = self.rng.within(0, body.len());
+                self.compare(comparer, kind, &body[..len], (width, height))?;
+            }
+        }
+        Ok(())
+    }
+
+    /// Random bytes, on planes so small that they sometimes fill them.
+    fn noise(&mut self, comparer: &mut Comparer) -> Outcome {
+        for _ in 0..20 {
+            let sides = (self.rng.within(1, 100), self.rng.within(1, 4));
+            let len = self.rng.within(0, 120);
+            let body = self.rng.bytes(len);
+            self.compare(comparer, Kind::Noise, &body, sides)?;
+        }
+        Ok(())
+    }
+
+    /// Sides of which one at least is refused.
+    fn outside(&mut self, comparer: &mut Comparer) -> Outcome {
+        for _ in 0..8 {
+            let (mut width, mut height) = planes::sides(&mut self.rng);
+            let wrong = match self.rng.below(4) {
+                0 | 1 => 0,
+                2 => MOST + self.rng.within(1, 1000),
+                _ => (self.rng.word() as usize) | (MOST << 1),
+            };
+            match self.rng.below(3) {
+                0 => width = wrong,
+                1 => height = wrong,
+                _ => (width, height) = (wrong, *self.rng.pick(&[0, MOST + 1, 9000, usize::MAX])),
+            }
+            let (len, room) = (self.rng.within(0, 40), self.rng.within(0, 600));
+            let body = self.rng.bytes(len);
+            comparer.compare(Kind::Sides, Case { width, height, body: &body, before: self.earlier.bytes(room) })?;
+        }
+        Ok(())
+    }
+}

@@ -1,0 +1,60 @@
+//! Stands in for the crate `ironrdp_core`. Of it the plane coder uses `WriteCursor`: a slice and how far it is written.
+
+pub struct WriteCursor<'a> {
+    inner: &'a mut [u8],
+    pos: usize,
+}
+
+impl<'a> WriteCursor<'a> {
+    #[inline]
+    pub fn new(inner: &'a mut [u8]) -> Self {
+        Self { inner, pos: 0 }
+    }
+
+    /// How many bytes are left, not how many the slice has: the encoder tests its room with this.
+    #[inline]
+    pub fn len(&self) -> usize {
+        self.inner.len() - self.pos
+    }
+
+    #[inline]
+    pub fn is_empty(&self) -> bool {
+        self.len() == 0
+    }
+
+    /// How many bytes are written.
+    #[inline]
+    pub fn pos(&self) -> usize {
+        self.pos
+    }
+
+    /// Panics if no byte is left: it has no error to give.
+    #[inline]
+    #[track_caller]
+    pub fn write_u8(&mut self, value: u8) {
+        self.write_slice(&[value]);
+    }
+
+    /// Panics if fewer bytes are left.
+    #[inline]
+    #[track_caller]
+    pub fn write_slice(&mut self, bytes: &[u8]) {
+        self.inner[self.pos..self.pos + bytes.len()].copy_from_slice(bytes);
+        self.pos += bytes.len();
+    }
+}
+
+#[cfg(test)]
+mod tests {
+    use super::WriteCursor;
+
+    #[test]
+    fn len_is_what_is_left() {
+        let mut bytes = [0xEE; 4];
+        let mut cursor = WriteCursor::new(&mut bytes);
+        cursor.write_u8(1);
+        cursor.write_slice(&[2, 3]);
+        assert_eq!((cursor.pos(), cursor.len(), cursor.is_empty()), (3, 1, false));
+        assert_eq!(bytes, [1, 2, 3, 0xEE]);
+    }
+}

@@ -1,0 +1,93 @@
+//! The Rust that was ported, unchanged, behind functions that always come back: its errors by document 01's numbers,
+//! its panics caught.
+
+include!(concat!(env!("OUT_DIR"), "/modules.rs"));
+
+mod panics;
+
+use ironrdp_core::WriteCursor;
+use rdp6::rle::{compress_8bpp_plane, decompress_8bpp_plane, RleDecodeError};
+use std::fmt;
+
+/// What the Rust answers to a plane that it is to unpack.
+#[derive(Clone, Debug, PartialEq, Eq)]
+pub enum Answer {
+    /// So many bytes were read.
+    Read(usize),
+    /// Document 01's number: 7, 8 or 9 from the Rust itself.
+    Refused(u8),
+    /// The destination ended inside the first row. No number of document 01: it refuses by 10 before.
+    WriteError,
+    /// A panic, and its place as file:line.
+    Panic(String),
+}
+
+impl Answer {
+    /// The answer in one number, as the library gives it: bytes read, or minus the refusal's number.
+    pub fn number(&self) -> Option<i64> {
+        match self {
+            Answer::Read(count) => i64::try_from(*count).ok(),
+            Answer::Refused(number) => Some(-i64::from(*number)),
+            Answer::WriteError | Answer::Panic(_) => None,
+        }
+    }
+}
+
+impl fmt::Display for Answer {
+    fn fmt(&self, f: &mut fmt::Formatter<'_>) -> fmt::Result {
+        match self {
+            Answer::Read(count) => write!(f, "{count} read"),
+            Answer::Refused(number) => write!(f, "refusal {number}"),
+            Answer::WriteError => write!(f, "WriteDecompressedData"),
+            Answer::Panic(place) => write!(f, "panic at {place}"),
+        }
+    }
+}
+
+/// `decompress_8bpp_plane`. The destination may have been written to after a panic too.
+pub fn unpack(src: &[u8], dst: &mut [u8], width: usize, height: usize) -> Answer {
+    match panics::caught(|| decompress_8bpp_plane(src, dst, width, height)) {
+        Ok(Ok(count)) => Answer::Read(count),
+        Ok(Err(RleDecodeError::ReadCompressedData(_))) => Answer::Refused(7),
+        Ok(Err(RleDecodeError::InvalidSegmentHeader)) => Answer::Refused(8),
+        Ok(Err(RleDecodeError::SegmentDoNotFitScanline)) => Answer::Refused(9),
+        Ok(Err(RleDecodeError::WriteDecompressedData(_))) => Answer::WriteError,
+        Err(place) => Answer::Panic(place),
+    }
+}
+
+/// `compress_8bpp_plane` of width times height samples, with room enough. `None` is an error that there should not be.
+pub fn pack(samples: &[u8], width: usize, height: usize) -> Option<Vec<u8>> {
+    // At worst every 15 raw bytes have a control byte.
+    let mut packed = vec![0; height * (width + width.div_ceil(15))];
+    let mut cursor = WriteCursor::new(&mut packed);
+    let count = compress_8bpp_plane(samples.iter().copied(), &mut cursor, width, height).ok()?;
+    packed.truncate(count);
+    Some(packed)
+}
+
+#[cfg(test)]
+mod tests {
+    use super::{pack, unpack, Answer};
+
+    #[test]
+    fn example_14_whole_and_cut() {
+        let samples: Vec<u8> = [[9; 17], [10; 17]].concat();
+        let packed = pack(&samples, 17, 2).unwrap();
+        assert_eq!(packed, [0x1F, 9, 0x10, 9, 0x1F, 2, 0x10, 2]);
+        let mut plane = vec![0xEE; 34];
+        assert_eq!(unpack(&packed, &mut plane, 17, 2), Answer::Read(8));
+        assert_eq!(plane, samples);
+        let mut cut = vec![0xEE; 34];
+        assert_eq!(unpack(&packed[..6], &mut cut, 17, 2), Answer::Refused(7));
+        assert_eq!(cut, [&[9; 17][..], &[2; 16], &[0xEE]].concat());
+    }
+
+    #[test]
+    fn a_panic_is_an_answer() {
+        let mut plane = vec![0xEE; 2];
+        let answer = unpack(&[0x20, 1, 2, 0x20, 2], &mut plane, 2, 2);
+        assert!(matches!(answer, Answer::Panic(place) if place.starts_with("rle.rs:")));
+        assert_eq!(plane, [1, 2]);
+    }
+}
