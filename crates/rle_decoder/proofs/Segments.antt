@@ -5,9 +5,9 @@ use Prim.Native.Nat.{ℕ, _+_, _-_, _≤_, _<_}
 use native.Mathlib.Omega.{arith}
 use lib.ListN.{length, take, drop, getD, length-drop}
 use lib.Seq.{length-take-le, drop-drop}
-use Rattle.rle_format.specs.Segment.{Segment, lastOf, after, values, count, rawCount, runLength, SegmentRead, segment, no-segment, readSegment}
+use Rattle.rle_format.specs.Segment.{Segment, lastOf, after, rawCount, runLength, SegmentRead, segment, no-segment, readSegment}
 use Rattle.rle_format.proofs.Segment.{seen, segment-read, segment-short}
-use Rattle.rle_decoder.specs.NextSegment.{SegmentAnswer, read, refused-by, answerTo}
+use Rattle.rle_decoder.specs.NextSegment.{read, refused-by, answerTo}
 
 -- a refusal is no segment that was read
 pub not-read : {r raw run last : ℕ} {X : Type 0} → refused-by r ≡ read raw run last → X

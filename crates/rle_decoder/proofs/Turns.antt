@@ -1,6 +1,6 @@
 -- The turns of the loop of `decode_scanline`, on plain values. Assumes nothing.
 use mathlib.Core.Path.{_≡_, refl, sym, ap, _∙_}
-use mathlib.Core.List.{List, [], _++_, append-nil}
+use mathlib.Core.List.{List, _++_, append-nil}
 use Prim.Native.Nat.{ℕ, _+_, _-_, _≤_, _<_}
 use native.Mathlib.Nat.{sub-self, sub-zero, add-zero}
 use native.Mathlib.Omega.{arith}
@@ -8,12 +8,12 @@ use lib.ListN.{length, take, drop, replicate, length-take, take-append-drop}
 use lib.Seq.{drop-drop}
 use Rattle.rle_format.specs.Answer.{Answer, counted, refused, Outcome, stop, more, onto}
 use Rattle.rle_format.specs.Slice.{over, putAt}
-use Rattle.rle_format.specs.Segment.{Segment, lastOf, after, values, count, size, segment, no-segment, readSegment}
+use Rattle.rle_format.specs.Segment.{after, values, count, size, readSegment}
 use Rattle.rle_format.proofs.Slice.{length-putAt, take-putAt, drop-putAt}
 use Rattle.rle_format.proofs.Outcome.{onto-none, onto-onto, same-answer}
 use Rattle.rle_format.proofs.Segment.{length-values}
 use Rattle.rle_format.proofs.Row.{rowFrom, from-full, from-refused, from-passes, from-step}
-use Rattle.rle_decoder.specs.NextSegment.{SegmentAnswer, read, refused-by, answerTo, stoppedBy}
+use Rattle.rle_decoder.specs.NextSegment.{read, refused-by, answerTo}
 use Rattle.rle_decoder.proofs.Segments.{Found, found-segment, found-none}
 
 -- the row that is read from the bytes from `from` on

@@ -1,9 +1,9 @@
 -- Outcomes one after the other.
 use mathlib.Core.Path.{_≡_, refl, sym, ap, _∙_}
-use mathlib.Core.List.{List, [], _++_, append-assoc, append-nil}
+use mathlib.Core.List.{List, [], _++_, append-assoc}
 use Prim.Native.Nat.{ℕ, _+_}
 use native.Mathlib.Nat.{zero-add, add-assoc}
-use Rattle.rle_format.specs.Answer.{Answer, counted, refused, Outcome, stop, more, onto}
+use Rattle.rle_format.specs.Answer.{Answer, counted, refused, Outcome, stop, onto}
 use Rattle.rle_format.specs.Slice.{over}
 use Rattle.rle_format.proofs.Slice.{over-none}
 

@@ -2,7 +2,7 @@
 use mathlib.Core.Path.{_≡_, refl, sym, ap, _∙_}
 use mathlib.Core.Bool.{Bool, true, false}
 use mathlib.Core.Logic.{⊎-elim}
-use mathlib.Core.List.{List, [], _∷_, _++_}
+use mathlib.Core.List.{List, [], _∷_}
 use Prim.Native.Nat.{ℕ, zero, suc, _+_, _-_, _/_, _%_, _≤_, _<_}
 use native.Mathlib.Omega.{arith}
 use native.Mathlib.Numerals.{add-one}
@@ -12,7 +12,7 @@ use lib.ListN.{length, take, drop, getD, length-append, length-drop, length-repl
 use lib.Seq.{drop-cons, getD-drop, length-take-le}
 use Rattle.rle_format.specs.Choice.{choose}
 use Rattle.rle_format.proofs.Cases.{eq-or-ne}
-use Rattle.rle_format.specs.Segment.{Segment, lastOf, after, values, count, size, rawCount, runLength, SegmentRead, segment, no-segment, readSegment}
+use Rattle.rle_format.specs.Segment.{Segment, lastOf, values, count, size, rawCount, runLength, segment, no-segment, readSegment}
 
 -- what a control byte says, by its low four bits
 module _ (c : ℕ) where
@@ -137,6 +137,3 @@ last-at s at (suc raw) last z h =
   where
     sum : (at raw : ℕ) → at + 1 + raw ≡ at + suc raw
     sum at raw = omega arith
-
-pub last-none : (s : List ℕ) (raw last : ℕ) → raw ≡ 0 → lastOf last (take raw s) ≡ last
-last-none s raw last e = rw e

@@ -13,10 +13,6 @@ pub putAt-none : (d : List ℕ) (at : ℕ) → putAt d at [] ≡ d
 unfolding putAt
 putAt-none d at = ap (λ (k : ℕ). take at d ++ drop k d) (add-zero at) ∙ take-append-drop at d
 
-pub putAt-over : (d vs : List ℕ) → putAt d 0 vs ≡ over d vs
-unfolding putAt over
-putAt-over d vs = rw zero-add
-
 pub over-none : (d : List ℕ) → over d [] ≡ d
 unfolding over
 over-none d = refl
