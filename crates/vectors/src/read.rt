@@ -48,7 +48,7 @@ struct Entry {
     next: usize,
 }
 
-// The place behind the newline of the line that starts at at, or the text's end where no newline follows.
+// The place behind the newline of the line that starts at `at`, or the text's end where no newline follows.
 pub(crate) fn line_end(text: &[u8], at: usize) -> usize
     requires { ⌜ at < length (now text) ⌝ }
     ensures { λ r. ⌜ (at < r) × (r ≤ length (now (text .entry))) ⌝ }
@@ -65,7 +65,7 @@ pub(crate) fn is_end(line: &[u8], at: usize) -> bool {
     at == line.len()
 }
 
-// The decimal number at at.
+// The decimal number at `at`.
 pub(crate) fn next_number(line: &[u8], at: usize) -> Number {
     let end = field_end(line, at);
     if line.len() <= end {
@@ -80,7 +80,7 @@ pub(crate) fn next_number(line: &[u8], at: usize) -> Number {
     }
 }
 
-// The decimal number at at, with its sign.
+// The decimal number at `at`, with its sign.
 pub(crate) fn next_signed(line: &[u8], at: usize) -> Signed {
     if line.len() <= at {
         return Signed::Malformed;
@@ -93,7 +93,7 @@ pub(crate) fn next_signed(line: &[u8], at: usize) -> Signed {
     Signed::Value { minus, value, next }
 }
 
-// The bytes at at, written to the start of into.
+// The bytes at `at`, written to the start of into.
 pub(crate) fn next_bytes(line: &[u8], at: usize, into: &mut [u8]) -> Bytes
     ensures { λ r. ⌜ countOf r ≤ length (now (into .entry)) ⌝ }
 {
@@ -119,7 +119,7 @@ pub(crate) fn fill(slice: &mut [u8], byte: u8) {
     }
 }
 
-// The place of the space or newline that ends the field at at; not within the line where nothing ends it.
+// The place of the space or newline that ends the field at `at`; not within the line where nothing ends it.
 fn field_end(line: &[u8], at: usize) -> usize
     ensures { λ r. ⌜ at ≤ r ⌝ }
 {
@@ -207,7 +207,7 @@ fn expand(field: &[u8], into: &mut [u8]) -> Expanded
     Expanded::Count(count)
 }
 
-// The entry at at: two hexadecimal digits, and a star with the number of repeats if there are some.
+// The entry at `at`: two hexadecimal digits, and a star with the number of repeats if there are some.
 fn next_entry(field: &[u8], at: usize) -> Entry
     requires { ⌜ at < length (now field) ⌝ }
     ensures { λ r. ⌜ at < r .next ⌝ }
@@ -237,7 +237,7 @@ fn next_entry(field: &[u8], at: usize) -> Entry
     }
 }
 
-// The entry of a byte whose number of repeats stands at at. A comma ends the number, and more must follow the comma.
+// The entry of a byte whose number of repeats stands at `at`. A comma ends the number, and more must follow the comma.
 fn repeated(field: &[u8], at: usize, byte: u8) -> Entry
     requires { ⌜ at ≤ length (now field) ⌝ }
     ensures { λ r. ⌜ at ≤ r .next ⌝ }

@@ -1,5 +1,6 @@
 use native.Mathlib.Omega.{arith}
-use lib.ListN.{length-take}
+use Prim.Native.Nat.{_≤_}
+use lib.ListN.{length, length-take}
 use borrow.Author.Needs.{needs}
 use Rattle.vectors.proofs.plane_unpack.replay_in.Statement.{statement}
 use Rattle.vectors.proofs.plane_unpack.replay_in.Tie as tie
@@ -78,7 +79,8 @@ part-unpack-start c = search needs
 
 part-unpack-end : tie.Need-part-unpack-end
 part-unpack-end c =
-    let p = c .before .before .before .before .before .before .before .before .before .before .before .before .before in omega (arith, rw (p .count .given .1) at (p .before .before .before .before .next-bytes .ensures))
+    let p = c .before .before .before .before .before .before .before .before .before .before .before .before .before in
+    omega (arith, rw (p .count .given .1) at (p .before .before .before .before .next-bytes .ensures))
 
 sub-unpack-2 : tie.Need-sub-unpack-2
 sub-unpack-2 c = search needs
@@ -86,14 +88,16 @@ sub-unpack-2 c = search needs
 part-unpack-start-2 : tie.Need-part-unpack-start-2
 part-unpack-start-2 c = search needs
 
+after-fits : (p : tie.After-room) → p .room .given .0 .0 ≤ length (p .before .before .before .before .before .before .before .before .before .before .before .before .before .before .before .before .before .before .before .before .before .args .after .now)
+after-fits p = rw (p .room .given .1) at (p .before .before .before .before .next-bytes2 .ensures)
+
 part-unpack-end-2 : tie.Need-part-unpack-end-2
-part-unpack-end-2 c =
-    let p = c .before .before .before .before .before .before .before .before .before in omega (arith, rw (p .room .given .1) at (p .before .before .before .before .next-bytes2 .ensures))
+part-unpack-end-2 c = omega (arith, after-fits (c .before .before .before .before .before .before .before .before .before))
 
 unpack-requires : tie.Need-unpack-requires
 unpack-requires c κs =
     let p = c .before .before .before .before .before .before .before .before .before .before in
-    simp length-take (omega (arith, c .before .before .before .before .before .before .before .before .before .before .before .before .before .before .before .before .before .before .before .before .before .before .before .before .before .before .before .before .before .before .before .pre, rw (p .room .given .1) at (p .before .before .before .before .next-bytes2 .ensures)))
+    simp length-take (omega (arith, p .before .before .before .before .before .before .before .before .before .before .before .before .before .before .before .before .before .before .before .before .before .pre, after-fits p))
 
 same-length-8 : tie.Need-same-length-8
 same-length-8 c = search needs
