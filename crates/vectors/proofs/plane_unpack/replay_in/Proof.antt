@@ -1,0 +1,150 @@
+use native.Mathlib.Omega.{arith}
+use Prim.Native.Nat.{_≤_}
+use lib.ListN.{length, length-take}
+use borrow.Author.Needs.{needs}
+use Rattle.vectors.proofs.plane_unpack.replay_in.Statement.{statement}
+use Rattle.vectors.proofs.plane_unpack.replay_in.Tie as tie
+
+read-head-requires : tie.Need-read-head-requires
+read-head-requires c κs = search needs
+
+enum-known-case : tie.Need-enum-known-case
+enum-known-case c = search needs
+
+enum-told : tie.Need-enum-told
+enum-told c = search needs
+
+returns : tie.Need-returns
+returns c = search needs
+
+next-bytes-requires : tie.Need-next-bytes-requires
+next-bytes-requires c κs = search needs
+
+enum-known-count : tie.Need-enum-known-count
+enum-known-count c = search needs
+
+enum-told-2 : tie.Need-enum-told-2
+enum-told-2 c = search needs
+
+same-length : tie.Need-same-length
+same-length c = search needs
+
+returns-2 : tie.Need-returns-2
+returns-2 c = search needs
+
+next-bytes-requires-2 : tie.Need-next-bytes-requires-2
+next-bytes-requires-2 c κs = search needs
+
+enum-known-room : tie.Need-enum-known-room
+enum-known-room c = search needs
+
+enum-told-3 : tie.Need-enum-told-3
+enum-told-3 c = search needs
+
+same-length-2 : tie.Need-same-length-2
+same-length-2 c = search needs
+
+same-length-3 : tie.Need-same-length-3
+same-length-3 c = search needs
+
+returns-3 : tie.Need-returns-3
+returns-3 c = search needs
+
+same-length-4 : tie.Need-same-length-4
+same-length-4 c = search needs
+
+same-length-5 : tie.Need-same-length-5
+same-length-5 c = search needs
+
+returns-4 : tie.Need-returns-4
+returns-4 c = search needs
+
+is-end-requires : tie.Need-is-end-requires
+is-end-requires c κs = search needs
+
+same-length-6 : tie.Need-same-length-6
+same-length-6 c = search needs
+
+same-length-7 : tie.Need-same-length-7
+same-length-7 c = search needs
+
+returns-5 : tie.Need-returns-5
+returns-5 c = search needs
+
+sub-unpack : tie.Need-sub-unpack
+sub-unpack c = search needs
+
+part-unpack-start : tie.Need-part-unpack-start
+part-unpack-start c = search needs
+
+part-unpack-end : tie.Need-part-unpack-end
+part-unpack-end c =
+    let p = c .before .before .before .before .before .before .before .before .before .before .before .before .before in
+    omega (arith, rw (p .count .given .1) at (p .before .before .before .before .next-bytes .ensures))
+
+sub-unpack-2 : tie.Need-sub-unpack-2
+sub-unpack-2 c = search needs
+
+part-unpack-start-2 : tie.Need-part-unpack-start-2
+part-unpack-start-2 c = search needs
+
+after-fits : (p : tie.After-room) → p .room .given .0 .0 ≤ length (p .before .before .before .before .before .before .before .before .before .before .before .before .before .before .before .before .before .before .before .before .before .args .after .now)
+after-fits p = rw (p .room .given .1) at (p .before .before .before .before .next-bytes2 .ensures)
+
+part-unpack-end-2 : tie.Need-part-unpack-end-2
+part-unpack-end-2 c = omega (arith, after-fits (c .before .before .before .before .before .before .before .before .before))
+
+unpack-requires : tie.Need-unpack-requires
+unpack-requires c κs =
+    let p = c .before .before .before .before .before .before .before .before .before .before in
+    simp length-take (omega (arith, p .before .before .before .before .before .before .before .before .before .before .before .before .before .before .before .before .before .before .before .before .before .pre, after-fits p))
+
+same-length-8 : tie.Need-same-length-8
+same-length-8 c = search needs
+
+same-length-9 : tie.Need-same-length-9
+same-length-9 c = search needs
+
+same-length-10 : tie.Need-same-length-10
+same-length-10 c = search needs
+
+returns-6 : tie.Need-returns-6
+returns-6 c = search needs
+
+pub replay-in-spec : {M : Type 1} → statement M
+replay-in-spec =
+    tie.close
+    (tie.spec
+    read-head-requires
+    enum-known-case
+    enum-told
+    returns
+    next-bytes-requires
+    enum-known-count
+    enum-told-2
+    same-length
+    returns-2
+    next-bytes-requires-2
+    enum-known-room
+    enum-told-3
+    same-length-2
+    same-length-3
+    returns-3
+    same-length-4
+    same-length-5
+    returns-4
+    is-end-requires
+    same-length-6
+    same-length-7
+    returns-5
+    sub-unpack
+    part-unpack-start
+    part-unpack-end
+    sub-unpack-2
+    part-unpack-start-2
+    part-unpack-end-2
+    unpack-requires
+    same-length-8
+    same-length-9
+    same-length-10
+    returns-6)

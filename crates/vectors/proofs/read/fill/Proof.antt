@@ -1,0 +1,48 @@
+use Prim.Native.Nat.{_≤_, _-_}
+use native.Mathlib.Omega.{arith}
+use borrow.Author.Needs.{needs}
+use mathlib.Core.Path.{_≡_}
+use lib.ListN.{length, length-set}
+use Rattle.vectors.proofs.read.fill.Statement.{statement}
+use Rattle.vectors.proofs.read.fill.Tie as tie
+
+abbrev Inv-loop : tie.InvT-loop
+Inv-loop slice₀ byte i₀ slice i = (i ≤ length slice) × (length slice ≡ length slice₀)
+
+abbrev μ-loop : tie.MeasureT-loop
+μ-loop slice₀ byte i₀ slice i = length slice₀ - i
+
+loop-holds : tie.Need-loop-holds Inv-loop μ-loop
+loop-holds c = search needs
+
+slice-write-slice : tie.Need-slice-write-slice Inv-loop μ-loop
+slice-write-slice c = search needs
+
+add-i : tie.Need-add-i Inv-loop μ-loop
+add-i c = search needs
+
+loop-less : tie.Need-loop-less Inv-loop μ-loop
+loop-less c = search needs
+
+loop-again : tie.Need-loop-again Inv-loop μ-loop
+loop-again c = simp length-set (omega arith)
+
+same-length : tie.Need-same-length Inv-loop μ-loop
+same-length c = search needs
+
+returns : tie.Need-returns Inv-loop μ-loop
+returns c = search needs
+
+pub fill-spec : {M : Type 1} → statement M
+fill-spec =
+    tie.close
+    (tie.spec
+    Inv-loop
+    μ-loop
+    loop-holds
+    slice-write-slice
+    add-i
+    loop-less
+    loop-again
+    same-length
+    returns)
