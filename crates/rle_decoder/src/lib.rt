@@ -11,12 +11,10 @@ ghost use Rattle.rle_format.specs.Answer.{told, onto};
 ghost use Rattle.rle_format.specs.Slice.{over};
 ghost use Rattle.rle_format.specs.Unpack.{unpackRows, unpackPlane};
 use delta::resolve_scanline_delta;
+use rle_format::MAX_SIDE;
 use rle_format::Refusal;
 use rle_format::Unpacked;
 use row::decode_scanline;
-
-// The widest row and the highest plane.
-const MAX_SIDE: usize = 8192;
 
 // The first width bytes of dst are a row of samples, read from the bytes of src before `from`. Reads so many rows below it. The
 // answer counts the bytes before `from` too.

@@ -23,7 +23,7 @@ inFront vs n (stopped codes r) = stopped (vs ++ codes) r
 -- "Segments are read until the row is full, and the row stops at the first segment that is a refusal"; 9: "the segment passes
 -- the width", tested after the segment is read. `room` is what the row has left, `last` the last byte. At most `bound` segments
 -- are read. Number 0 is no refusal: it says that the bound was reached first. Each segment stands for one value or more, so
--- that this does not happen where the bound is at least the room (proofs/Row.antt: row-numbers)
+-- that this does not happen where the bound is at least the room (proofs/Row.antt: row-bounded)
 unfoldable pub readRow : (bound room last : ℕ) (body : List ℕ) → RowRead
 readRow zero zero last body = full [] 0
 readRow zero (suc room) last body = stopped [] 0

@@ -3,6 +3,9 @@
 ghost use mathlib.Core.Path.{_≡_};
 ghost use Rattle.rle_format.specs.Answer.{number};
 
+// The widest row and the highest plane.
+pub const MAX_SIDE: usize = 8192;
+
 // Why a call is refused. specs/Answer.antt gives each its number in document 01; the names are the Rust's where it has one.
 pub enum Refusal {
     ZeroSize,

@@ -1,3 +1,4 @@
+-- `c_number`: a count as it is, a refusal's number below 0; both fit 64 bits. Assumes nothing.
 use Rattle.rdp6.proofs.Numbers.{minus-is, count-fits, refusal-fits}
 use mathlib.Core.Path.{sym, ap, _∙_, subst}
 use lib.IntN.{ℤ}

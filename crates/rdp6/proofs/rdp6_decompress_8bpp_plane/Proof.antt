@@ -1,3 +1,4 @@
+-- `rdp6_decompress_8bpp_plane`: what the entry ensures, its answer as a number. Assumes nothing.
 use mathlib.Core.Path.{_≡_, sym, ap, _∙_}
 use Prim.Native.Nat.{ℕ, _≤_}
 use lib.ListN.{length}

@@ -1,3 +1,4 @@
+-- `decode`: the first row, and then the rows below it. Assumes nothing.
 use mathlib.Core.Path.{sym, ap, _∙_}
 use native.Mathlib.Omega.{arith}
 use Rattle.rle_format.specs.Answer.{number, told}

@@ -1,3 +1,5 @@
+-- `decode_rows_below`: a turn of its loop is a row; the invariant is `RowsHead` of Rows.antt, whose laws answer the needs.
+-- Assumes nothing.
 use Rattle.rle_decoder.proofs.Rows.{tail-room, RowsHead, rows-first, rows-end, one-left, within, rows-stop, rows-turn}
 use mathlib.Core.Path.{sym, ap, _∙_}
 use Prim.Native.Nat.{suc, _+_, _-_, _≤_}

@@ -1,3 +1,4 @@
+-- `decompress_8bpp_plane`: each refusal from the test that led to it, the rest from `decode`. Assumes nothing.
 use mathlib.Core.Path.{sym, ap, _∙_}
 use native.Mathlib.Omega.{arith}
 use lib.ListN.{length}

@@ -1,3 +1,4 @@
+-- `transformed_delta`: even and odd codes. Assumes nothing.
 use Rattle.rle_format.proofs.Delta.{even-code, odd-code}
 use borrow.Author.Needs.{needs}
 use Rattle.rle_decoder.proofs.delta.transformed_delta.Statement.{statement}

@@ -1,3 +1,4 @@
+-- `copy_raw`: after i turns the first i bytes are copied. Assumes nothing.
 use Prim.Native.Nat.{_≤_, _-_}
 use mathlib.Core.Path.{_≡_, refl, sym, ap, _∙_}
 use native.Mathlib.Omega.{arith}

@@ -1,3 +1,5 @@
+-- `decode_scanline`: a turn of its loop is a segment; the invariant is `RowHead` of Turns.antt, whose laws answer the needs.
+-- Assumes nothing.
 use mathlib.Core.Path.{_≡_, sym, ap, _∙_}
 use mathlib.Core.List.{List}
 use Prim.Native.Nat.{ℕ, _+_, _-_, _≤_, _<_}

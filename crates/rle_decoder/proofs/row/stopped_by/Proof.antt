@@ -1,3 +1,4 @@
+-- `stopped_by`: case by case. Assumes nothing.
 use mathlib.Core.Path.{sym, ap}
 use Rattle.rle_decoder.specs.declared.segment.NextSegment.{NextSegment}
 use Rattle.rle_decoder.specs.NextSegment.{toldSegment, stoppedBy}

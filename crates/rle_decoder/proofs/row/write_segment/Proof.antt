@@ -1,3 +1,4 @@
+-- `write_segment`: two writes, one right behind the other. Assumes nothing.
 use Rattle.rle_format.proofs.Slice.{put-both}
 use mathlib.Core.Path.{refl}
 use native.Mathlib.Omega.{arith}

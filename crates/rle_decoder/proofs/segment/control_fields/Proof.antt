@@ -1,3 +1,4 @@
+-- `control_fields`: case by case of the low four bits. Assumes nothing.
 use Rattle.rle_format.proofs.Segment.{says-one, says-two, says-plain}
 use borrow.Author.Needs.{needs}
 use Rattle.rle_decoder.proofs.segment.control_fields.Statement.{statement}

@@ -1,3 +1,4 @@
+-- `decompress_next_segment`: each answer from the tests that led to it. Assumes nothing.
 use Rattle.rle_format.proofs.Segment.{stands, segment-end, segment-zero}
 use Rattle.rle_decoder.proofs.Segments.{not-read, read-at, short-at}
 use Rattle.rle_decoder.specs.NextSegment.{answerTo, toldSegment}

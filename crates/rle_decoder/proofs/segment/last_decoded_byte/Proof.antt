@@ -1,3 +1,4 @@
+-- `last_decoded_byte`: the last of the raw bytes stands at `at + raw`. Assumes nothing.
 use mathlib.Core.Path.{sym}
 use Rattle.rle_format.proofs.Segment.{last-at}
 use borrow.Author.Needs.{needs}

@@ -1,3 +1,4 @@
+-- `replay_lines` is safe and ends: each line has a byte at least, so the counts stay within the text. Assumes nothing.
 use Prim.Native.Nat.{_≤_, _-_, _+_}
 use native.Mathlib.Omega.{arith}
 use borrow.Author.Needs.{needs}

@@ -1,3 +1,4 @@
+-- `replay_in` is safe: the body and the destination lie within the room for them. Assumes nothing.
 use native.Mathlib.Omega.{arith}
 use Prim.Native.Nat.{_≤_}
 use lib.ListN.{length, length-take}

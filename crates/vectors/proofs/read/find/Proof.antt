@@ -1,3 +1,4 @@
+-- `find` is safe and ends within the text. Assumes nothing.
 use Prim.Native.Nat.{_≤_, _-_}
 use native.Mathlib.Omega.{arith}
 use borrow.Author.Needs.{needs}

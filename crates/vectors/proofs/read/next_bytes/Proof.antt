@@ -1,3 +1,4 @@
+-- `next_bytes` is safe: the field lies within the line. Assumes nothing.
 use borrow.Author.Needs.{needs}
 use Rattle.vectors.proofs.read.next_bytes.Statement.{statement}
 use Rattle.vectors.proofs.read.next_bytes.Tie as tie
