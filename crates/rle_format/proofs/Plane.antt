@@ -1,6 +1,6 @@
 -- The rows of a plane one at a time, the tests before them, and how much a plane reads and writes.
 use mathlib.Core.Path.{_≡_, refl, sym, ap, _∙_}
-use mathlib.Core.Logic.{⊎-elim}
+use mathlib.Core.Logic.{_⊎_, inl, inr, ⊎-elim}
 use mathlib.Core.List.{List, _++_}
 use mathlib.Core.Option.{Option, none, some}
 use Prim.Native.Nat.{ℕ, zero, suc, _+_, _-_, _*_, _≤_, _<_}
@@ -150,29 +150,48 @@ rows-bounded w (suc k) above body a =
         (onto-bounded (suc k * w) n body (restoreRow above codes) (unpackRows w k (some (restoreRow above codes)) (drop n body))
         (omega (arith, wide)) (b .1 .0) (omega arith) (rw e (ih codes n l)))
 
--- a plane that is read whole has read few bytes, within its body
-pub plane-read : (w h room n : ℕ) (body : List ℕ) → unpackPlane w h room body .answer ≡ counted n → (n ≤ length body) × (n ≤ 134217728)
+-- the numbers by which a plane is refused
+abbrev pub PlaneNumber : ℕ → Type 0
+PlaneNumber r = (r ≡ 1) ⊎ ((r ≡ 2) ⊎ ((r ≡ 10) ⊎ ((7 ≤ r) × (r ≤ 9))))
+
+-- a plane that was read whole has written width × height samples from bytes within its body, two at most for each; a refused one
+-- has written no more
+abbrev pub PlaneBounded : (area : ℕ) (body written : List ℕ) → Answer → Type 0
+PlaneBounded area body written (counted n) = (area ≤ 67108864) × RowsBounded area body written (counted n)
+PlaneBounded area body written (refused r) = (length written ≤ area) × PlaneNumber r
+
+-- what holds of a plane holds of it as a refusal at the entry or as its rows
+entry-bounded : (area r : ℕ) (body : List ℕ) (o : Outcome) → o ≡ stop (refused r) → PlaneNumber r → PlaneBounded area body (o .written) (o .answer)
 unfolding stop
-plane-read w h room n body e =
-    ⊎-elim (λ (z : w ≡ 0). refuses 1 (plane-no-width w h room body z))
+entry-bounded area r body o e k = rw e (omega arith, k)
+
+rows-of-plane : (w h : ℕ) (body : List ℕ) (o : Outcome) → o ≡ unpackRows w h none body → w * h ≤ 67108864 → PlaneBounded (w * h) body (o .written) (o .answer)
+rows-of-plane w h body o e few =
+    rw (e, mul-comm w h) (go (unpackRows w h none body .written) (unpackRows w h none body .answer) (rows-bounded w h none body tt))
+  where
+    go : (written : List ℕ) (a : Answer) → RowsBounded (h * w) body written a → PlaneBounded (h * w) body written a
+    go written (counted n) b = (omega (arith, mul-comm w h), b)
+    go written (refused r) b = (b .0, inr (inr (inr (b .1))))
+
+pub plane-bounded : (w h room : ℕ) (body : List ℕ) → PlaneBounded (w * h) body (unpackPlane w h room body .written) (unpackPlane w h room body .answer)
+plane-bounded w h room body =
+    ⊎-elim (λ (z : w ≡ 0). at-entry 1 (plane-no-width w h room body z) (inl refl))
     (λ (hw : w ≡ 0 → ⊥).
-    ⊎-elim (λ (z : h ≡ 0). refuses 1 (plane-no-height w h room body hw z))
+    ⊎-elim (λ (z : h ≡ 0). at-entry 1 (plane-no-height w h room body hw z) (inl refl))
     (λ (hh : h ≡ 0 → ⊥).
     ⊎-elim
     (λ (lw : w ≤ 8192).
     ⊎-elim
     (λ (lh : h ≤ 8192).
-    ⊎-elim (λ (l : w * h ≤ room). rows lw lh (plane-rows w h room body hw hh lw lh l))
-    (λ (l : room < w * h). refuses 10 (plane-short w h room body hw hh lw lh l)) (le-or-gt (w * h) room))
-    (λ (l : 8192 < h). refuses 2 (plane-high w h room body hw hh lw l)) (le-or-gt h 8192))
-    (λ (l : 8192 < w). refuses 2 (plane-wide w h room body hw hh l)) (le-or-gt w 8192))
+    ⊎-elim (λ (l : w * h ≤ room). rows-of-plane w h body (unpackPlane w h room body) (plane-rows w h room body hw hh lw lh l) (area-most w h lw lh))
+    (λ (l : room < w * h). at-entry 10 (plane-short w h room body hw hh lw lh l) (inr (inr (inl refl))))
+    (le-or-gt (w * h) room))
+    (λ (l : 8192 < h). at-entry 2 (plane-high w h room body hw hh lw l) (inr (inl refl)))
+    (le-or-gt h 8192))
+    (λ (l : 8192 < w). at-entry 2 (plane-wide w h room body hw hh l) (inr (inl refl)))
+    (le-or-gt w 8192))
     (eq-or-ne h 0))
     (eq-or-ne w 0)
   where
-    refuses : (r : ℕ) → unpackPlane w h room body ≡ stop (refused r) → (n ≤ length body) × (n ≤ 134217728)
-    refuses r is = not-counted (sym (same-answer is) ∙ e)
-
-    rows : w ≤ 8192 → h ≤ 8192 → unpackPlane w h room body ≡ unpackRows w h none body → (n ≤ length body) × (n ≤ 134217728)
-    rows lw lh is =
-        let b = rw (sym (same-answer is) ∙ e) at (rows-bounded w h none body tt) in
-        (omega arith, omega (arith, area-most w h lw lh, mul-comm w h))
+    at-entry : (r : ℕ) → unpackPlane w h room body ≡ stop (refused r) → PlaneNumber r → PlaneBounded (w * h) body (unpackPlane w h room body .written) (unpackPlane w h room body .answer)
+    at-entry r e k = entry-bounded (w * h) r body (unpackPlane w h room body) e k

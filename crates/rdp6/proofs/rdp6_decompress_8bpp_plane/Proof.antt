@@ -1,12 +1,13 @@
 -- `rdp6_decompress_8bpp_plane`: what the entry ensures, its answer as a number. Assumes nothing.
 use mathlib.Core.Path.{_≡_, sym, ap, _∙_}
 use Prim.Native.Nat.{ℕ, _≤_}
+use native.Mathlib.Omega.{arith}
 use lib.ListN.{length}
 use mir.Facts.{toZ-ofZ}
 use mir.Val.{SFits}
 use mir.Syntax.{w64}
 use Rattle.rle_format.specs.Answer.{told}
-use Rattle.rle_format.proofs.Plane.{plane-read}
+use Rattle.rle_format.proofs.Plane.{plane-bounded}
 use Rattle.rdp6.specs.Number.{cNumber}
 use Rattle.rdp6.proofs.Numbers.{answer-fits}
 use Rattle.rle_format.specs.declared.Unpacked.the-variants.{Read}
@@ -18,7 +19,9 @@ use Rattle.rdp6.proofs.rdp6_decompress_8bpp_plane.Tie as tie
 few : (c : tie.After-decompress-8bpp-plane) (n : ℕ) → c .decompress-8bpp-plane .result ≡ Read n → n ≤ 134217728
 few c n e =
     let a = c .before .before .before .before .args in
-    plane-read (a .width) (a .height) (length (a .dst .now)) n (a .src .now) (sym (c .decompress-8bpp-plane .ensures .0) ∙ ap told e) .1
+    let is = sym (c .decompress-8bpp-plane .ensures .0) ∙ ap told e in
+    let b = rw is at (plane-bounded (a .width) (a .height) (length (a .dst .now)) (a .src .now)) in
+    omega arith
 
 decompress-8bpp-plane-requires : tie.Need-decompress-8bpp-plane-requires
 decompress-8bpp-plane-requires c κs = search needs
