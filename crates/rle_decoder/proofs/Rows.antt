@@ -8,7 +8,7 @@ use native.Mathlib.Numerals.{sub-one}
 use native.Mathlib.Omega.{arith}
 use lib.ListN.{length, take, drop, length-take, length-drop, length-append}
 use lib.Seq.{drop-drop, drop-at, take-at}
-use Rattle.rle_format.specs.Answer.{Answer, counted, refused, Outcome, stop, more, onto}
+use Rattle.rle_format.specs.Answer.{Answer, counted, refused, stop, more, onto}
 use Rattle.rle_format.specs.Slice.{over, putAt}
 use Rattle.rle_format.specs.Delta.{undelta, columns}
 use Rattle.rle_format.specs.Unpack.{unpackRows}
@@ -16,15 +16,8 @@ use Rattle.rle_format.proofs.Slice.{tail, put-back, tail-is, lent-over, lent-pu
 use Rattle.rle_format.proofs.Delta.{length-columns}
 use Rattle.rle_format.proofs.Outcome.{onto-onto, same-answer, same-slice}
 use Rattle.rle_format.proofs.Row.{rowFrom}
+use Rattle.rle_decoder.specs.Rows.{codedRow, rowsBelow}
 use Rattle.rle_format.proofs.Plane.{RowFull, row-full, row-stopped, rows-none}
-
--- the rows below the first row of d, with that row before them
-abbrev pub below : (src d : List ℕ) (w n from : ℕ) → Outcome
-below src d w n from = onto (take w d) from (unpackRows w n (some (take w d)) (drop from src))
-
--- the row that is read from the bytes from `at` on
-abbrev row : (src : List ℕ) (at w : ℕ) → Outcome
-row src at w = rowFrom w 0 (drop at src)
 
 -- a part from a on has room for two rows
 pub tail-room : (d : List ℕ) (a w : ℕ) → a + w + w ≤ length d → w + w ≤ length (tail d a)
@@ -37,7 +30,7 @@ pub record RowsHead (src d₀ d : List ℕ) (w n from at above left : ℕ) : Typ
   pub room : above + w + left * w ≤ length d₀
   pub low : at ≤ length src
   pub rest : drop (above + w) d ≡ drop (above + w) d₀
-  pub rows : below src d₀ w n from ≡ onto (take (above + w) d) at (unpackRows w left (some (drop above (take (above + w) d))) (drop at src))
+  pub rows : rowsBelow src d₀ w n from ≡ onto (take (above + w) d) at (unpackRows w left (some (drop above (take (above + w) d))) (drop at src))
 
 pub rows-first : (src d : List ℕ) (w n from : ℕ) → w + n * w ≤ length d → from ≤ length src → RowsHead src d d w n from from 0 n
 rows-first src d w n from h b = record {
@@ -50,11 +43,11 @@ rows-first src d w n from h b = record {
 
 module _ (src d₀ d : List ℕ) (w n from at above : ℕ) where
   -- no row is left
-  pub rows-end : (left : ℕ) → RowsHead src d₀ d w n from at above left → left ≤ 0 → (counted at ≡ below src d₀ w n from .answer) × (d ≡ over d₀ (below src d₀ w n from .written))
+  pub rows-end : (left : ℕ) → RowsHead src d₀ d w n from at above left → left ≤ 0 → (counted at ≡ rowsBelow src d₀ w n from .answer) × (d ≡ over d₀ (rowsBelow src d₀ w n from .written))
   unfolding onto stop
   rows-end (suc k) h l = absurd (omega arith)
   rows-end zero h l =
-      let e : below src d₀ w n from ≡ onto (take (above + w) d) at (stop (counted 0)) =
+      let e : rowsBelow src d₀ w n from ≡ onto (take (above + w) d) at (stop (counted 0)) =
       h .rows ∙ ap (onto (take (above + w) d) at) (rows-none w (some (drop above (take (above + w) d))) (drop at src)) in
       let into : above + w ≤ length d = omega (arith, h .len, h .room) in (
         sym (same-answer e ∙ ap counted (add-zero at)),
@@ -66,28 +59,28 @@ module _ (src d₀ d : List ℕ) (w n from at above : ℕ) where
   one-left zero h l = absurd (omega arith)
   one-left (suc k) h l = rw (sub-one (suc k)) h
 
-  module _ (k : ℕ) (h : RowsHead src d₀ d w n from at above (suc k)) (ys : List ℕ) (wrote : ys ≡ over (tail d (above + w)) (row src at w .written)) where
+  module _ (k : ℕ) (h : RowsHead src d₀ d w n from at above (suc k)) (ys : List ℕ) (wrote : ys ≡ over (tail d (above + w)) (codedRow src at w .written)) where
     fits : above + w + w + k * w ≤ length d₀
     fits = omega (arith, h .room, suc-mul k w)
 
     -- the slice when the row's part is back
-    coded : put-back d (above + w) ys ≡ putAt d (above + w) (row src at w .written)
-    coded = lent-over d ys (row src at w .written) (above + w) wrote
+    coded : put-back d (above + w) ys ≡ putAt d (above + w) (codedRow src at w .written)
+    coded = lent-over d ys (codedRow src at w .written) (above + w) wrote
 
     -- the next row is refused
-    pub rows-stop : (r : ℕ) → row src at w .answer ≡ refused r
-        → (row src at w .answer ≡ below src d₀ w n from .answer) × (put-back d (above + w) ys ≡ over d₀ (below src d₀ w n from .written))
+    pub rows-stop : (r : ℕ) → codedRow src at w .answer ≡ refused r
+        → (codedRow src at w .answer ≡ rowsBelow src d₀ w n from .answer) × (put-back d (above + w) ys ≡ over d₀ (rowsBelow src d₀ w n from .written))
     unfolding onto
     rows-stop r e =
-        let u : below src d₀ w n from ≡ onto (take (above + w) d) at (row src at w) =
+        let u : rowsBelow src d₀ w n from ≡ onto (take (above + w) d) at (codedRow src at w) =
         h .rows ∙ ap (onto (take (above + w) d) at) (row-stopped w r k (some (drop above (take (above + w) d))) (drop at src) e) in
         let into : above + w ≤ length d = omega (arith, h .len, h .room) in (
           e ∙ sym (same-answer u ∙ ap (more at) e),
-          coded ∙ put-over d₀ d (above + w) (row src at w .written) into (h .rest) ∙ sym (same-slice d₀ u),
+          coded ∙ put-over d₀ d (above + w) (codedRow src at w .written) into (h .rest) ∙ sym (same-slice d₀ u),
         )
 
     -- the next row is read, m bytes of it, and resolved in its part
-    module _ (m : ℕ) (read : row src at w .answer ≡ counted m) where
+    module _ (m : ℕ) (read : codedRow src at w .answer ≡ counted m) where
       whole : RowFull w m (drop at src)
       whole = row-full w m (drop at src) read
 
@@ -101,7 +94,7 @@ module _ (src d₀ d : List ℕ) (w n from at above : ℕ) where
         rows-turn =
             let start : ℕ = above + w in
             let d₁ : List ℕ = put-back d start ys in
-            let vs : List ℕ = row src at w .written in
+            let vs : List ℕ = codedRow src at w .written in
             let A : List ℕ = drop above (take start d) in
             let S : List ℕ = columns undelta A vs in
             let big : start + w ≤ length d = omega (arith, fits, h .len) in
@@ -154,7 +147,7 @@ module _ (src d d₁ : List ℕ) (w h : ℕ) (some-row : 0 < h) (wrote : d₁ �
   pub first-read : (m : ℕ) → rowFrom w 0 src .answer ≡ counted m → m ≤ length src
   first-read m e = row-full w m src e .within
 
-  pub first-turn : (m : ℕ) → rowFrom w 0 src .answer ≡ counted m → (d₂ : List ℕ) (r : Answer) → r ≡ below src d₁ w (h - 1) m .answer → d₂ ≡ over d₁ (below src d₁ w (h - 1) m .written)
+  pub first-turn : (m : ℕ) → rowFrom w 0 src .answer ≡ counted m → (d₂ : List ℕ) (r : Answer) → r ≡ rowsBelow src d₁ w (h - 1) m .answer → d₂ ≡ over d₁ (rowsBelow src d₁ w (h - 1) m .written)
       → (r ≡ unpackRows w h none src .answer) × (d₂ ≡ over d (unpackRows w h none src .written))
   unfolding over onto
   first-turn m e d₂ r er ed = go h some-row er ed
@@ -168,11 +161,11 @@ module _ (src d d₁ : List ℕ) (w h : ℕ) (some-row : 0 < h) (wrote : d₁ �
       same : take w d₁ ≡ vs
       same = ap (take w) wrote ∙ take-at vs (drop (length vs) d) w (f .wide)
 
-      go : (h : ℕ) → 0 < h → r ≡ below src d₁ w (h - 1) m .answer → d₂ ≡ over d₁ (below src d₁ w (h - 1) m .written)
+      go : (h : ℕ) → 0 < h → r ≡ rowsBelow src d₁ w (h - 1) m .answer → d₂ ≡ over d₁ (rowsBelow src d₁ w (h - 1) m .written)
           → (r ≡ unpackRows w h none src .answer) × (d₂ ≡ over d (unpackRows w h none src .written))
       go zero l er ed = absurd (omega arith)
       go (suc k) l er ed =
-          let u : below src d₁ w (suc k - 1) m ≡ unpackRows w (suc k) none src =
+          let u : rowsBelow src d₁ w (suc k - 1) m ≡ unpackRows w (suc k) none src =
           (λ i. onto (same i) m (unpackRows w (sub-one (suc k) i) (some (same i)) (drop m src))) ∙ sym (f .rows k none) in
           let v : length vs ≤ length (unpackRows w (suc k) none src .written) = rw (f .rows k none) (simp length-append (omega arith)) in (
             er ∙ same-answer u,

@@ -14,11 +14,8 @@ use Rattle.rle_format.proofs.Outcome.{onto-none, onto-onto, same-answer}
 use Rattle.rle_format.proofs.Segment.{length-values}
 use Rattle.rle_format.proofs.Row.{rowFrom, from-full, from-refused, from-passes, from-step}
 use Rattle.rle_decoder.specs.NextSegment.{read, refused-by, answerTo}
+use Rattle.rle_decoder.specs.Rows.{codedRow}
 use Rattle.rle_decoder.proofs.Segments.{Found, found-segment, found-none}
-
--- the row that is read from the bytes from `from` on
-abbrev pub row : (src : List ℕ) (from width : ℕ) → Outcome
-row src from width = rowFrom width 0 (drop from src)
 
 -- the loop at its head: d₀ is the slice as it came and d as it is now. The whole row is what is written, in front of the row
 -- from here on
@@ -27,7 +24,7 @@ pub record RowHead (src d₀ d : List ℕ) (from width at column last : ℕ) : T
   pub within : column ≤ width
   pub len : length d ≡ length d₀
   pub rest : drop column d ≡ drop column d₀
-  pub whole : row src from width ≡ onto (take column d) (at - from) (rowFrom (width - column) last (drop at src))
+  pub whole : codedRow src from width ≡ onto (take column d) (at - from) (rowFrom (width - column) last (drop at src))
 
 pub row-first : (src d : List ℕ) (from width : ℕ) → RowHead src d d from width from 0 0
 row-first src d from width = record {
@@ -41,18 +38,18 @@ row-first src d from width = record {
 module _ (src d₀ d : List ℕ) (from width at column last : ℕ) (fits : width ≤ length d₀) (h : RowHead src d₀ d from width at column last) where
   -- where the row stops here, the slice has its values in front, and the answer is the row's
   row-ends : (a : Answer) → rowFrom (width - column) last (drop at src) ≡ stop a
-      → (more (at - from) a ≡ row src from width .answer) × (d ≡ over d₀ (row src from width .written))
+      → (more (at - from) a ≡ codedRow src from width .answer) × (d ≡ over d₀ (codedRow src from width .written))
   unfolding stop onto over
   row-ends a e =
-      let w : row src from width ≡ onto (take column d) (at - from) (stop a) = h .whole ∙ ap (onto (take column d) (at - from)) e in
+      let w : codedRow src from width ≡ onto (take column d) (at - from) (stop a) = h .whole ∙ ap (onto (take column d) (at - from)) e in
       let n : length (take column d) ≡ column = simp length-take (omega (arith, h .len, h .within)) in
-      let v : row src from width .written ≡ take column d = ap (λ (o : Outcome). o .written) w ∙ append-nil (take column d) in (
+      let v : codedRow src from width .written ≡ take column d = ap (λ (o : Outcome). o .written) w ∙ append-nil (take column d) in (
         sym (same-answer w),
         sym (ap (λ (vs : List ℕ). vs ++ drop (length vs) d₀) v ∙ ap (λ (k : ℕ). take column d ++ drop k d₀) n ∙ ap (λ (l : List ℕ). take column d ++ l) (sym (h .rest)) ∙ take-append-drop column d),
       )
 
   -- the row is full
-  pub row-full : width ≤ column → (counted (at - from) ≡ row src from width .answer) × (d ≡ over d₀ (row src from width .written))
+  pub row-full : width ≤ column → (counted (at - from) ≡ codedRow src from width .answer) × (d ≡ over d₀ (codedRow src from width .written))
   row-full l =
       let none : width - column ≡ 0 = omega (arith, h .within) in
       let ends = row-ends (counted 0) (rw none (from-full last (drop at src))) in
@@ -61,7 +58,7 @@ module _ (src d₀ d : List ℕ) (from width at column last : ℕ) (fits : width
   module _ (some : column < width) where
     -- the next segment is a refusal
     pub row-refused : (r : ℕ) → refused-by r ≡ answerTo last (readSegment (drop at src))
-        → (refused r ≡ row src from width .answer) × (d ≡ over d₀ (row src from width .written))
+        → (refused r ≡ codedRow src from width .answer) × (d ≡ over d₀ (codedRow src from width .written))
     row-refused r e =
         row-ends (refused r) (from-refused (width - column) last (drop at src) (omega arith) r (found-none r last (readSegment (drop at src)) e))
 
@@ -70,7 +67,7 @@ module _ (src d₀ d : List ℕ) (from width at column last : ℕ) (fits : width
       f = found-segment src at last raw run next e
 
       -- it passes the width
-      pub row-passes : width - column < raw + run → (refused 9 ≡ row src from width .answer) × (d ≡ over d₀ (row src from width .written))
+      pub row-passes : width - column < raw + run → (refused 9 ≡ codedRow src from width .answer) × (d ≡ over d₀ (codedRow src from width .written))
       row-passes wide =
           row-ends (refused 9) (from-passes (width - column) last (drop at src) (omega arith) (f .it) (f .found) (omega (arith, f .raws, f .runs)))
 

@@ -1,1 +1,2 @@
 pub mod NextSegment
+pub mod Rows

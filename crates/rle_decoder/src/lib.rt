@@ -4,12 +4,13 @@ mod row;
 mod segment;
 
 ghost use mathlib.Core.Path.{_≡_};
-ghost use mathlib.Core.Option.{none, some};
+ghost use mathlib.Core.Option.{none};
 ghost use Prim.Native.Nat.{_+_, _*_, _≤_, _<_};
-ghost use lib.ListN.{length, take, drop};
-ghost use Rattle.rle_format.specs.Answer.{told, onto};
+ghost use lib.ListN.{length};
+ghost use Rattle.rle_format.specs.Answer.{told};
 ghost use Rattle.rle_format.specs.Slice.{over};
 ghost use Rattle.rle_format.specs.Unpack.{unpackRows, unpackPlane};
+ghost use Rattle.rle_decoder.specs.Rows.{rowsBelow};
 use delta::resolve_scanline_delta;
 use rle_format::MAX_SIDE;
 use rle_format::Refusal;
@@ -20,8 +21,8 @@ use row::decode_scanline;
 // answer counts the bytes before `from` too.
 fn decode_rows_below(src: &[u8], from: usize, dst: &mut [u8], width: usize, rows: usize) -> Unpacked
     requires { ⌜ (width + rows * width ≤ length (now dst)) × (from ≤ length (now src)) ⌝ }
-    ensures answer { λ r. ⌜ told r ≡ onto (take width (now (dst .entry))) from (unpackRows width rows (some (take width (now (dst .entry)))) (drop from (now (src .entry)))) .answer ⌝ }
-    ensures slice { λ _. ⌜ now (dst .exit) ≡ over (now (dst .entry)) (onto (take width (now (dst .entry))) from (unpackRows width rows (some (take width (now (dst .entry)))) (drop from (now (src .entry)))) .written) ⌝ }
+    ensures answer { λ r. ⌜ told r ≡ rowsBelow (now (src .entry)) (now (dst .entry)) width rows from .answer ⌝ }
+    ensures slice { λ _. ⌜ now (dst .exit) ≡ over (now (dst .entry)) (rowsBelow (now (src .entry)) (now (dst .entry)) width rows from .written) ⌝ }
 {
     let mut at = from;
     let mut above: usize = 0;

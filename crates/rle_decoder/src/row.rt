@@ -2,11 +2,11 @@
 ghost use mathlib.Core.Path.{_≡_};
 ghost use Prim.Native.Nat.{_+_, _≤_};
 ghost use mathlib.Core.List.{_++_};
-ghost use lib.ListN.{length, drop, replicate};
+ghost use lib.ListN.{length, replicate};
 ghost use Rattle.rle_format.specs.Answer.{told};
 ghost use Rattle.rle_format.specs.Slice.{over, putAt};
-ghost use Rattle.rle_format.specs.Unpack.{readRow, rowOutcome};
 ghost use Rattle.rle_decoder.specs.NextSegment.{toldSegment, stoppedBy};
+ghost use Rattle.rle_decoder.specs.Rows.{codedRow};
 use crate::segment::NextSegment;
 use crate::segment::decompress_next_segment;
 use rle_format::Refusal;
@@ -63,8 +63,8 @@ fn stopped_by(segment: NextSegment) -> Unpacked
 // added here, so that a refused row is left as its coded values.
 pub(crate) fn decode_scanline(src: &[u8], from: usize, dst: &mut [u8], width: usize) -> Unpacked
     requires { ⌜ width ≤ length (now dst) ⌝ }
-    ensures answer { λ r. ⌜ told r ≡ rowOutcome (readRow width width 0 (drop from (now (src .entry)))) .answer ⌝ }
-    ensures slice { λ _. ⌜ now (dst .exit) ≡ over (now (dst .entry)) (rowOutcome (readRow width width 0 (drop from (now (src .entry)))) .written) ⌝ }
+    ensures answer { λ r. ⌜ told r ≡ codedRow (now (src .entry)) from width .answer ⌝ }
+    ensures slice { λ _. ⌜ now (dst .exit) ≡ over (now (dst .entry)) (codedRow (now (src .entry)) from width .written) ⌝ }
 {
     let mut at = from;
     let mut column: usize = 0;

@@ -13,7 +13,6 @@ use Rattle.rle_format.specs.Delta.{undelta, restoreRow}
 use Rattle.rle_format.specs.Unpack.{RowRead, full, stopped, readRow, rowOutcome, unpackRows, unpackPlane}
 use Rattle.rle_format.proofs.Cases.{le-or-gt, eq-or-ne}
 use Rattle.rle_format.proofs.Delta.{length-columns}
-use Rattle.rle_format.proofs.Outcome.{same-answer}
 use Rattle.rle_format.proofs.Row.{RowBounded, row-bounded, rowFrom}
 
 -- ---- a row, and those below it

@@ -1,6 +1,5 @@
 -- `replay_lines` is safe and ends: each line has a byte at least, so the counts stay within the text. Assumes nothing.
 use Prim.Native.Nat.{_≤_, _-_, _+_}
-use native.Mathlib.Omega.{arith}
 use borrow.Author.Needs.{needs}
 use lib.ListN.{length}
 use Rattle.vectors.proofs.file.replay_lines.Statement.{statement}

@@ -1,6 +1,5 @@
 -- `decimal_of` is safe and ends: the number is tested before each digit joins it. Assumes nothing.
 use Prim.Native.Nat.{_≤_, _-_}
-use native.Mathlib.Omega.{arith}
 use borrow.Author.Needs.{needs}
 use lib.ListN.{length}
 use Rattle.vectors.proofs.read.decimal_of.Statement.{statement}

@@ -1,6 +1,5 @@
 -- `expand` is safe and ends: each entry takes a byte of the field at least, and what is written stays within `into`. Assumes nothing.
 use Prim.Native.Nat.{_≤_, _-_}
-use native.Mathlib.Omega.{arith}
 use borrow.Author.Needs.{needs}
 use mathlib.Core.Path.{_≡_}
 use lib.ListN.{length}

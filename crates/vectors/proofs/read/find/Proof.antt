@@ -1,6 +1,5 @@
 -- `find` is safe and ends within the text. Assumes nothing.
 use Prim.Native.Nat.{_≤_, _-_}
-use native.Mathlib.Omega.{arith}
 use borrow.Author.Needs.{needs}
 use lib.ListN.{length}
 use Rattle.vectors.proofs.read.find.Statement.{statement}
