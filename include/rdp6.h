@@ -6,8 +6,8 @@
  *
  * Slices. A slice is a pointer and its length in bytes. It is the caller's: it is lent for the call, and nothing is kept, freed or
  * allocated. A slice that is written must not overlap any other slice of the call. All of a slice's bytes must be readable, and
- * writable where the pointer is not const; its length is at most SSIZE_MAX. Where the length is 0 the pointer is not followed; let
- * it be any pointer but NULL all the same.
+ * writable where the pointer is not const; its length is at most SSIZE_MAX. Where the length is 0 the pointer is not followed, and may
+ * be NULL.
  *
  * Answers. A count of bytes, 0 or more; or minus the number of a refusal, and then nothing but what the refusal names is changed.
  *

@@ -165,7 +165,11 @@ impl Region {
         }
     }
 
+    /// Where the bytes are lent. An empty slice is lent as NULL once, as the header allows.
     fn lend(&self, bytes: &[u8], side: Side) -> *mut u8 {
+        if bytes.is_empty() && side == Side::Start {
+            return ptr::null_mut();
+        }
         // SAFETY: the offset leaves room for so many bytes.
         unsafe {
             let at = self.start.add(self.offset(bytes.len(), side));
