@@ -1,19 +1,20 @@
 -- The rows of a plane one at a time, the tests before them, and how much a plane reads and writes.
 use mathlib.Core.Path.{_≡_, refl, sym, ap, _∙_}
 use mathlib.Core.Logic.{_⊎_, inl, inr, ⊎-elim}
-use mathlib.Core.List.{List, _++_}
+use mathlib.Core.List.{List}
 use mathlib.Core.Option.{Option, none, some}
 use Prim.Native.Nat.{ℕ, zero, suc, _+_, _-_, _*_, _≤_, _<_}
 use native.Mathlib.Nat.{mul-le-mul, zero-mul, suc-mul, mul-comm}
 use native.Mathlib.Omega.{arith}
 use borrow.Author.Tests.{eq-eqb, ne-eqb, lt-ltb, le-ltb}
-use lib.ListN.{length, drop, length-append, length-drop}
+use lib.ListN.{length, drop}
 use Rattle.rle_format.specs.Answer.{Answer, counted, refused, Outcome, stop, onto}
 use Rattle.rle_format.specs.Delta.{undelta, restoreRow}
 use Rattle.rle_format.specs.Unpack.{RowRead, full, stopped, readRow, rowOutcome, unpackRows, unpackPlane}
 use Rattle.rle_format.proofs.Cases.{le-or-gt, eq-or-ne}
 use Rattle.rle_format.proofs.Delta.{length-columns}
-use Rattle.rle_format.proofs.Row.{RowBounded, row-bounded, rowFrom}
+use Rattle.rle_format.proofs.Outcome.{Bounded, onto-bounded}
+use Rattle.rle_format.proofs.Row.{row-bounded, rowFrom}
 
 -- ---- a row, and those below it
 
@@ -40,7 +41,7 @@ pub record RowFull (w n : ℕ) (body : List ℕ) : Type 0 where
 pub row-full : (w n : ℕ) (body : List ℕ) → rowFrom w 0 body .answer ≡ counted n → RowFull w n body
 row-full w n body e = go (readRow w w 0 body) refl (row-bounded w w 0 body (omega arith)) e
   where
-    go : (read : RowRead) → readRow w w 0 body ≡ read → RowBounded w body read → rowOutcome read .answer ≡ counted n → RowFull w n body
+    go : (read : RowRead) → readRow w w 0 body ≡ read → Bounded w body (rowOutcome read .written) (rowOutcome read .answer) → rowOutcome read .answer ≡ counted n → RowFull w n body
     go (stopped codes r) is b a = not-counted a
     go (full codes m) is b a =
         let same : m ≡ n = cc in
@@ -100,12 +101,6 @@ module _ (w h room : ℕ) (body : List ℕ) where
 
 -- ---- how much rows read and write
 
--- rows that were read whole have written so many values, and at most two bytes were read for each; a refused row leaves no more,
--- and its number is 7, 8 or 9
-abbrev pub RowsBounded : (area : ℕ) (body written : List ℕ) → Answer → Type 0
-RowsBounded area body written (counted n) = (length written ≡ area) × ((n ≤ length body) × (n ≤ 2 * area))
-RowsBounded area body written (refused r) = (length written ≤ area) × ((7 ≤ r) × (r ≤ 9))
-
 -- the row above, if there is one, is w wide
 abbrev pub AboveWide : (w : ℕ) → Option (List ℕ) → Type 0
 AboveWide w none = Unit {0}
@@ -115,20 +110,8 @@ restored-wide : (w : ℕ) (above : Option (List ℕ)) (codes : List ℕ) → Abo
 restored-wide w none codes a e = e
 restored-wide w (some above) codes a e = length-columns undelta above codes (a ∙ sym e) ∙ e
 
-onto-bounded : (area n : ℕ) (body vs : List ℕ) (o : Outcome) → length vs ≤ area → n ≤ length body → n ≤ 2 * length vs
-    → RowsBounded (area - length vs) (drop n body) (o .written) (o .answer) → RowsBounded area body (onto vs n o .written) (onto vs n o .answer)
-unfolding onto
-onto-bounded area n body vs o h l t b = go (o .answer) b
-  where
-    long : length (vs ++ o .written) ≡ length vs + length (o .written)
-    long = length-append vs (o .written)
-
-    go : (a : Answer) → RowsBounded (area - length vs) (drop n body) (o .written) a → RowsBounded area body (vs ++ o .written) (onto vs n (record { written = o .written; answer = a }) .answer)
-    go (counted k) b = (omega (arith, long), (omega (arith, length-drop n body), omega arith))
-    go (refused r) b = (omega (arith, long), b .1)
-
 pub rows-bounded : (w k : ℕ) (above : Option (List ℕ)) (body : List ℕ) → AboveWide w above
-    → RowsBounded (k * w) body (unpackRows w k above body .written) (unpackRows w k above body .answer)
+    → Bounded (k * w) body (unpackRows w k above body .written) (unpackRows w k above body .answer)
 unfolding stop
 rows-bounded w zero above body a = rw (rows-none w above body, zero-mul w) (refl, (omega arith, omega arith))
 rows-bounded w (suc k) above body a =
@@ -138,9 +121,9 @@ rows-bounded w (suc k) above body a =
     wide = suc-mul k w
 
     go : ((codes : List ℕ) (n : ℕ) → length (restoreRow above codes) ≡ w
-        → RowsBounded (k * w) (drop n body) (unpackRows w k (some (restoreRow above codes)) (drop n body) .written) (unpackRows w k (some (restoreRow above codes)) (drop n body) .answer))
-        → (read : RowRead) → readRow w w 0 body ≡ read → RowBounded w body read
-        → RowsBounded (suc k * w) body (unpackRows w (suc k) above body .written) (unpackRows w (suc k) above body .answer)
+        → Bounded (k * w) (drop n body) (unpackRows w k (some (restoreRow above codes)) (drop n body) .written) (unpackRows w k (some (restoreRow above codes)) (drop n body) .answer))
+        → (read : RowRead) → readRow w w 0 body ≡ read → Bounded w body (rowOutcome read .written) (rowOutcome read .answer)
+        → Bounded (suc k * w) body (unpackRows w (suc k) above body .written) (unpackRows w (suc k) above body .answer)
     go ih (stopped codes r) is b = rw (rows-stopped w k above body codes r is) (omega (arith, wide), b .1)
     go ih (full codes n) is b =
         let l : length (restoreRow above codes) ≡ w = restored-wide w above codes a (b .0) in
@@ -156,7 +139,7 @@ PlaneNumber r = (r ≡ 1) ⊎ ((r ≡ 2) ⊎ ((r ≡ 10) ⊎ ((7 ≤ r) × (r �
 -- a plane that was read whole has written width × height samples from bytes within its body, two at most for each; a refused one
 -- has written no more
 abbrev pub PlaneBounded : (area : ℕ) (body written : List ℕ) → Answer → Type 0
-PlaneBounded area body written (counted n) = (area ≤ 67108864) × RowsBounded area body written (counted n)
+PlaneBounded area body written (counted n) = (area ≤ 67108864) × Bounded area body written (counted n)
 PlaneBounded area body written (refused r) = (length written ≤ area) × PlaneNumber r
 
 -- what holds of a plane holds of it as a refusal at the entry or as its rows
@@ -168,7 +151,7 @@ rows-of-plane : (w h : ℕ) (body : List ℕ) (o : Outcome) → o ≡ unpackRows
 rows-of-plane w h body o e few =
     rw (e, mul-comm w h) (go (unpackRows w h none body .written) (unpackRows w h none body .answer) (rows-bounded w h none body tt))
   where
-    go : (written : List ℕ) (a : Answer) → RowsBounded (h * w) body written a → PlaneBounded (h * w) body written a
+    go : (written : List ℕ) (a : Answer) → Bounded (h * w) body written a → PlaneBounded (h * w) body written a
     go written (counted n) b = (omega (arith, mul-comm w h), b)
     go written (refused r) b = (b .0, inr (inr (inr (b .1))))
 

@@ -2,14 +2,15 @@
 use mathlib.Core.Path.{_≡_, refl, sym, ap, _∙_}
 use mathlib.Core.Logic.{_⊎_, ⊎-elim}
 use mathlib.Core.List.{List, []}
-use Prim.Native.Nat.{ℕ, zero, suc, _*_, _-_, _≤_, _<_}
+use Prim.Native.Nat.{ℕ, zero, suc, _-_, _≤_, _<_}
 use native.Mathlib.Omega.{arith}
 use borrow.Author.Tests.{lt-ltb, le-ltb}
-use lib.ListN.{length, drop, length-append, length-drop}
+use lib.ListN.{drop}
 use Rattle.rle_format.specs.Answer.{counted, refused, Outcome, stop, onto}
 use Rattle.rle_format.specs.Segment.{Segment, SegmentRead, segment, no-segment, readSegment, values, size, count, after}
 use Rattle.rle_format.specs.Unpack.{RowRead, full, stopped, inFront, readRow, rowOutcome}
 use Rattle.rle_format.proofs.Cases.{le-or-gt}
+use Rattle.rle_format.proofs.Outcome.{Bounded, onto-bounded}
 use Rattle.rle_format.proofs.Segment.{seen, segment-numbers, length-values}
 
 -- ---- one step of the definition
@@ -85,38 +86,29 @@ bound-any b c room last body h k =
     steps room last body s rest e fits ih (suc c) k =
         ap (inFront (values last s) (size s)) (ih c (omega (arith, seen body s e .some))) ∙ sym (row-step c room last body s e fits)
 
--- how much a row reads and writes: a full row has as many values as it had room for, and at most two bytes were read for each;
--- one that stopped has no more, and its number is 7, 8 or 9
-abbrev pub RowBounded : (room : ℕ) (body : List ℕ) → RowRead → Type 0
-RowBounded room body (full codes n) = (length codes ≡ room) × ((n ≤ length body) × (n ≤ 2 * room))
-RowBounded room body (stopped codes r) = (length codes ≤ room) × ((7 ≤ r) × (r ≤ 9))
+-- a row is what its outcome is: segments in front of it are in front of the outcome
+onto-front : (vs : List ℕ) (n : ℕ) (rest : RowRead) → rowOutcome (inFront vs n rest) ≡ onto vs n (rowOutcome rest)
+unfolding onto
+onto-front vs n (full codes k) = refl
+onto-front vs n (stopped codes r) = refl
 
-front-bounded : (room : ℕ) (body : List ℕ) (vs : List ℕ) (n : ℕ) (rest : RowRead) → length vs ≤ room → n ≤ length body → n ≤ 2 * length vs
-    → RowBounded (room - length vs) (drop n body) rest → RowBounded room body (inFront vs n rest)
-front-bounded room body vs n (full codes k) h l t b =
-    (omega (arith, length-append vs codes), (omega (arith, length-drop n body), omega arith))
-front-bounded room body vs n (stopped codes r) h l t b = (omega (arith, length-append vs codes), b .1)
-
-pub row-bounded : (bound room last : ℕ) (body : List ℕ) → room ≤ bound → RowBounded room body (readRow bound room last body)
+pub row-bounded : (bound room last : ℕ) (body : List ℕ) → room ≤ bound
+    → Bounded room body (rowOutcome (readRow bound room last body) .written) (rowOutcome (readRow bound room last body) .answer)
 row-bounded =
-    row-induction (λ room last body read. RowBounded room body read)
+    row-induction (λ room last body read. Bounded room body (rowOutcome read .written) (rowOutcome read .answer))
     (λ last body. (refl, (omega arith, omega arith)))
     (λ room last body r e. (omega arith, segment-numbers body r e))
     (λ room last body s e wide. (omega arith, (omega arith, omega arith)))
     (λ room last body s rest e fits b.
-    front-bounded (suc room) body (values last s) (size s) rest
+    rw (onto-front (values last s) (size s) rest)
+    (onto-bounded (suc room) (size s) body (values last s) (rowOutcome rest)
     (omega (arith, length-values last s)) (seen body s e .fits) (omega (arith, length-values last s, seen body s e .some))
-    (rw (length-values last s) b))
+    (rw (length-values last s) b)))
 
 -- ---- a row from here on, with the room itself as the bound, as what it writes and answers
 
 abbrev pub rowFrom : (room last : ℕ) (body : List ℕ) → Outcome
 rowFrom room last body = rowOutcome (readRow room room last body)
-
-onto-front : (vs : List ℕ) (n : ℕ) (rest : RowRead) → rowOutcome (inFront vs n rest) ≡ onto vs n (rowOutcome rest)
-unfolding onto
-onto-front vs n (full codes k) = refl
-onto-front vs n (stopped codes r) = refl
 
 pub from-full : (last : ℕ) (body : List ℕ) → rowFrom 0 last body ≡ stop (counted 0)
 unfolding stop

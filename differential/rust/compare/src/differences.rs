@@ -5,27 +5,25 @@ use comparer::check::answer_text;
 use comparer::Owned;
 use std::process::ExitCode;
 
-/// Each place with its inputs.
+/// Each place with its inputs, the smallest that show it.
 const PLACES: [(&str, &[&str]); 5] = [
-    ("width 0", &["pu 0 3 - -", "pu 0 3 1005 EE*4", "pu 0 9000 - -"]),
-    ("height 0", &["pu 3 0 30010203 EE*4", "pu 3 0 - EE*4", "pu 3 0 30010203 EE*2"]),
+    ("width 0", &["pu 0 1 - -", "pu 0 9000 - -"]),
+    ("height 0", &["pu 1 0 1005 EE", "pu 1 0 - -", "pu 1 0 1005 -"]),
     (
         "a side over 8192",
         &[
-            "pu 8193 1 1F09F2*173,E2 EE*8194",
-            "pu 3 8193 03*8193 EE*24580",
-            "pu 18446744073709551615 1 03 EE*4",
-            "pu 3 18446744073709551615 03 EE*4",
+            "pu 8193 1 - -",
+            "pu 8193 1 F2*174,0F EE*8193",
+            "pu 3 8193 03*8193 EE*24579",
+            "pu 18446744073709551615 1 03 EE*3",
+            "pu 3 18446744073709551615 03 EE*3",
         ],
     ),
     (
         "the destination ends in the first row",
-        &["pu 4 1 1307 EE*3", "pu 4 1 100510061007 EE*2", "pu 4 1 - -", "pu 4 1 00 -", "pu 4 1 14 -", "pu 4 1 1407 -"],
+        &["pu 1 1 1005 -", "pu 2 1 200102 EE", "pu 1 1 - -", "pu 1 1 00 -", "pu 1 1 10 -", "pu 1 1 200102 -"],
     ),
-    (
-        "the destination ends in a later row",
-        &["pu 2 2 2001022002 EE*2", "pu 2 2 2001022002 EE*3", "pu 2 2 200102 EE*3", "pu 2 3 20010200 EE*4"],
-    ),
+    ("the destination ends in a later row", &["pu 1 2 10051000 EE", "pu 1 2 1005 EE", "pu 1 3 100500 EE*2"]),
 ];
 
 /// Runs the whole table.

@@ -24,7 +24,7 @@ fn main() -> ExitCode {
         ["--differences"] => differences::print_all(),
         ["--case", case] => differences::print_one(case),
         [] => compare(SECONDS, SEED),
-        [seconds] => with_numbers(seconds, "6"),
+        [seconds] => with_numbers(seconds, &SEED.to_string()),
         [seconds, seed] => with_numbers(seconds, seed),
         _ => usage(),
     }

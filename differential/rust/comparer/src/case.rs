@@ -4,7 +4,7 @@ use crate::bytes;
 use std::fmt;
 
 /// The longest side that document 01 allows.
-pub const MOST: usize = 8192;
+pub const MAX_SIDE: usize = 8192;
 
 /// The sides, the body, and what the destination holds before the call.
 #[derive(Clone, Copy)]
@@ -29,7 +29,7 @@ impl Case<'_> {
     pub fn refused_at_entry(&self) -> Option<u8> {
         if self.width == 0 || self.height == 0 {
             Some(1)
-        } else if self.width > MOST || self.height > MOST {
+        } else if self.width > MAX_SIDE || self.height > MAX_SIDE {
             Some(2)
         } else if self.before.len() < self.width * self.height {
             Some(10)

@@ -1,6 +1,6 @@
 //! The part that is the same in every run: all short bodies, all destination lengths, the refused sides.
 
-use crate::case::{Case, MOST};
+use crate::case::{Case, MAX_SIDE};
 use crate::check::{Comparer, Difference};
 use crate::planes::{self, Earlier, Look};
 use crate::rng::Rng;
@@ -111,7 +111,7 @@ fn destination_lengths(comparer: &mut Comparer, earlier: &mut Earlier) -> Outcom
 
 #[rustfmt::skip]
 const SIDES: [usize; 16] = [
-    0, 1, 2, 3, MOST - 1, MOST, MOST + 1, 9000, 16384, 65536, 1 << 32, (1 << 32) + 1, 1 << 62, usize::MAX / 2 + 1,
+    0, 1, 2, 3, MAX_SIDE - 1, MAX_SIDE, MAX_SIDE + 1, 9000, 16384, 65536, 1 << 32, (1 << 32) + 1, 1 << 62, usize::MAX / 2 + 1,
     usize::MAX - 1, usize::MAX,
 ];
 
@@ -134,7 +134,7 @@ fn refused_sides(comparer: &mut Comparer, earlier: &mut Earlier) -> Outcome {
 
 /// The largest planes that there are: whole, cut, and in a destination that is one byte short.
 fn largest_planes(comparer: &mut Comparer, earlier: &mut Earlier) -> Outcome {
-    let (width, height) = (MOST, MOST);
+    let (width, height) = (MAX_SIDE, MAX_SIDE);
     let plane: Vec<u8> = (0..width * height).map(|at| (at % width / 100 + at / width) as u8).collect();
     let packed = original::pack(&plane, width, height).expect("a whole plane with room");
     let before = earlier.bytes(width * height);

@@ -1,6 +1,6 @@
 //! The part that goes on until the time is over.
 
-use crate::case::{Case, MOST};
+use crate::case::{Case, MAX_SIDE};
 use crate::check::{Comparer, Difference};
 use crate::planes::{self, Earlier, Making, LOOKS};
 use crate::rng::Rng;
@@ -140,13 +140,13 @@ impl Random {
             let (mut width, mut height) = planes::sides(&mut self.rng);
             let wrong = match self.rng.below(4) {
                 0 | 1 => 0,
-                2 => MOST + self.rng.within(1, 1000),
-                _ => (self.rng.word() as usize) | (MOST << 1),
+                2 => MAX_SIDE + self.rng.within(1, 1000),
+                _ => (self.rng.word() as usize) | (MAX_SIDE << 1),
             };
             match self.rng.below(3) {
                 0 => width = wrong,
                 1 => height = wrong,
-                _ => (width, height) = (wrong, *self.rng.pick(&[0, MOST + 1, 9000, usize::MAX])),
+                _ => (width, height) = (wrong, *self.rng.pick(&[0, MAX_SIDE + 1, 9000, usize::MAX])),
             }
             let (len, room) = (self.rng.within(0, 40), self.rng.within(0, 600));
             let body = self.rng.bytes(len);

@@ -1,6 +1,6 @@
 //! The comparer must find every one of these mistakes, and none in a right unpacker.
 
-use comparer::case::MOST;
+use comparer::case::MAX_SIDE;
 use comparer::exhaustive;
 use comparer::planes::counts;
 use comparer::random::Random;
@@ -55,7 +55,7 @@ impl Slices {
 
 /// The refusal at entry, if any, or 0.
 fn refused_at_entry<const MISTAKE: u8>(room: usize, width: usize, height: usize) -> i64 {
-    let most = if MISTAKE == SIDES_OF_8193 { MOST + 1 } else { MOST };
+    let most = if MISTAKE == SIDES_OF_8193 { MAX_SIDE + 1 } else { MAX_SIDE };
     let zero = width == 0 || height == 0;
     let large = width > most || height > most;
     let samples = if MISTAKE == PRODUCT_WRAPS {
