@@ -1,4 +1,4 @@
--- The twelve numbers tell the refusals apart, so that a contract `told r ≡ a` determines r; and none is over 12.
+-- The twelve numbers tell the refusals apart, so that a contract `told r ≡ a` or `toldPacked r ≡ a` determines r; and none is over 12.
 use mathlib.Core.Path.{_≡_, refl, sym, ap, _∙_}
 use Prim.Native.Nat.{ℕ, _≤_}
 use native.Mathlib.Omega.{arith}
@@ -7,8 +7,10 @@ use Rattle.rle_format.specs.Choice.{choose}
 use Rattle.rle_format.specs.declared.Refusal.{Refusal}
 use Rattle.rle_format.specs.declared.Refusal.the-variants.{ZeroSize, TooLarge, LossLevel, InvalidUncompressedDataSize, ShortWork, ShortImage, ReadCompressedData, InvalidSegmentHeader, SegmentDoNotFitScanline, ShortPlane, NotEnoughBytes, BufferTooSmall}
 use Rattle.rle_format.specs.declared.Unpacked.{Unpacked}
-use Rattle.rle_format.specs.declared.Unpacked.the-variants.{Read, Refused}
-use Rattle.rle_format.specs.Answer.{Answer, counted, refused, number, told}
+use Rattle.rle_format.specs.declared.Unpacked.the-variants as unpacked
+use Rattle.rle_format.specs.declared.Packed.{Packed}
+use Rattle.rle_format.specs.declared.Packed.the-variants as packed
+use Rattle.rle_format.specs.Answer.{Answer, counted, refused, number, told, toldPacked}
 
 -- the refusal that has a number
 abbrev refusal : ℕ → Refusal
@@ -58,12 +60,23 @@ pub numbers-apart : (r s : Refusal) → number r ≡ number s → r ≡ s
 numbers-apart r s e = sym (refusal-number r) ∙ ap refusal e ∙ refusal-number s
 
 abbrev untold : Answer → Unpacked
-untold (counted n) = Read n
-untold (refused k) = Refused (refusal k)
+untold (counted n) = unpacked.Read n
+untold (refused k) = unpacked.Refused (refusal k)
 
 untold-told : (r : Unpacked) → untold (told r) ≡ r
-untold-told (Read n) = refl
-untold-told (Refused r) = ap (λ (k : Refusal). Refused k) (refusal-number r)
+untold-told (unpacked.Read n) = refl
+untold-told (unpacked.Refused r) = ap (λ (k : Refusal). unpacked.Refused k) (refusal-number r)
 
 pub told-apart : (r s : Unpacked) → told r ≡ told s → r ≡ s
 told-apart r s e = sym (untold-told r) ∙ ap untold e ∙ untold-told s
+
+abbrev untoldPacked : Answer → Packed
+untoldPacked (counted n) = packed.Written n
+untoldPacked (refused k) = packed.Refused (refusal k)
+
+untold-packed : (r : Packed) → untoldPacked (toldPacked r) ≡ r
+untold-packed (packed.Written n) = refl
+untold-packed (packed.Refused r) = ap (λ (k : Refusal). packed.Refused k) (refusal-number r)
+
+pub packed-apart : (r s : Packed) → toldPacked r ≡ toldPacked s → r ≡ s
+packed-apart r s e = sym (untold-packed r) ∙ ap untoldPacked e ∙ untold-packed s

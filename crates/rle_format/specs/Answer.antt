@@ -4,7 +4,9 @@ use mathlib.Core.List.{List, [], _++_}
 use Rattle.rle_format.specs.declared.Refusal.{Refusal}
 use Rattle.rle_format.specs.declared.Refusal.the-variants.{ZeroSize, TooLarge, LossLevel, InvalidUncompressedDataSize, ShortWork, ShortImage, ReadCompressedData, InvalidSegmentHeader, SegmentDoNotFitScanline, ShortPlane, NotEnoughBytes, BufferTooSmall}
 use Rattle.rle_format.specs.declared.Unpacked.{Unpacked}
-use Rattle.rle_format.specs.declared.Unpacked.the-variants.{Read, Refused}
+use Rattle.rle_format.specs.declared.Unpacked.the-variants as unpacked
+use Rattle.rle_format.specs.declared.Packed.{Packed}
+use Rattle.rle_format.specs.declared.Packed.the-variants as packed
 
 -- a count of bytes, or the number of a refusal: "A refusal returns its number alone"
 pub data Answer : Type 0 where
@@ -46,5 +48,10 @@ number BufferTooSmall = 12
 
 -- the answer of a row and of a plane that are unpacked
 abbrev pub told : Unpacked → Answer
-told (Read n) = counted n
-told (Refused r) = refused (number r)
+told (unpacked.Read n) = counted n
+told (unpacked.Refused r) = refused (number r)
+
+-- the answer of segments, a row and a plane that are packed
+abbrev pub toldPacked : Packed → Answer
+toldPacked (packed.Written n) = counted n
+toldPacked (packed.Refused r) = refused (number r)

@@ -4,4 +4,5 @@ pub mod Slice
 pub mod Delta
 pub mod Segment
 pub mod Unpack
+pub mod Pack
 pub mod Examples

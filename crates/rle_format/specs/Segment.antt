@@ -1,7 +1,9 @@
--- A segment (document 01, "A segment"; MS-RDPEGDI 2.2.2.5.1.2, RDP6_RLE_SEGMENT): what it stands for, and how one is read.
-use Prim.Native.Nat.{ℕ, _+_, _/_, _%_}
+-- A segment (document 01, "A segment"; MS-RDPEGDI 2.2.2.5.1.2, RDP6_RLE_SEGMENT): what it stands for, how one is read, and its bytes.
+use mathlib.Core.Path.{_≡_}
+use mathlib.Core.Logic.{_⊎_}
+use Prim.Native.Nat.{ℕ, _+_, _*_, _-_, _/_, _%_, _≤_}
 use mathlib.Core.List.{List, [], _∷_, _++_}
-use lib.Dec.{ltb, eqb}
+use lib.Dec.{ltb, leb, eqb}
 use lib.ListN.{length, take, replicate}
 use Rattle.rle_format.specs.Choice.{choose}
 
@@ -56,3 +58,26 @@ readSegment (control ∷ rest) =
     (choose (ltb (length rest) (rawCount control))
     (no-segment 7)
     (segment (record { raw = take (rawCount control) rest; run = runLength control })))
+
+-- the control byte of a segment that is written: the raw count and the run, or 16 or 32 less than a long run and 1 or 2
+abbrev pub control : Segment → ℕ
+control s =
+    choose (leb (s .run) 15)
+    (16 * length (s .raw) + s .run)
+    (choose (leb (s .run) 31) (16 * (s .run - 16) + 1) (16 * (s .run - 32) + 2))
+
+-- its bytes, `size` of them: the control byte, and the raw bytes
+abbrev pub bytes : Segment → List ℕ
+bytes s = control s ∷ s .raw
+
+-- the bytes of several segments, one after the other
+abbrev pub allBytes : List Segment → List ℕ
+allBytes [] = []
+allBytes (s ∷ ss) = bytes s ++ allBytes ss
+
+-- the segments that have a control byte: up to 15 raw bytes and a run of up to 15 that is not 1 or 2, one value at least; or a long
+-- run of 16 to 47, "the largest", without raw bytes. `control` is right of these, and the packing has no others (rle_round_trip/proofs)
+abbrev pub Coded : Segment → Type 0
+Coded s =
+    ((length (s .raw) ≤ 15) × (s .run ≤ 15) × (s .run ≡ 1 → ⊥) × (s .run ≡ 2 → ⊥) × (1 ≤ count s))
+    ⊎ ((s .raw ≡ []) × (16 ≤ s .run) × (s .run ≤ 47))

@@ -28,6 +28,12 @@ pub enum Unpacked {
     Refused(Refusal),
 }
 
+// The answer of a plane that is packed: the bytes written, or the refusal.
+pub enum Packed {
+    Written(usize),
+    Refused(Refusal),
+}
+
 // The number of a refusal in document 01's table.
 pub fn number_of(refusal: Refusal) -> u8
     ensures { λ r. ⌜ r ≡ number refusal ⌝ }
