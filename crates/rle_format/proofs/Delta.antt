@@ -5,7 +5,7 @@ use mathlib.Core.List.{List, [], _∷_}
 use Prim.Native.Nat.{ℕ, zero, suc, _+_, _-_, _*_, _/_, _%_, _≤_, _<_}
 use native.Mathlib.Omega.{arith}
 use native.Mathlib.Numerals.{add-one}
-use borrow.Author.Tests.{ltb-true, ltb-false, eq-eqb, ne-eqb}
+use borrow.Author.Tests.{ltb-true, ltb-false, lt-ltb, le-ltb, eq-eqb, ne-eqb}
 use lib.Dec.{ltb}
 use lib.ListN.{length, take, drop, set, getD, length-take, length-drop}
 use lib.Seq.{take-suc, getD-take, getD-drop}
@@ -29,6 +29,20 @@ difference-back d h = go (ltb d 128) refl
 pub undelta-deltaCode : (above value : ℕ) → above < 256 → value < 256 → undelta above (deltaCode above value) ≡ value
 unfolding undelta deltaCode difference
 undelta-deltaCode above value ha hv = rw (difference-back ((value + 256 - above) % 256) (omega arith)) (omega arith)
+
+-- the difference, by the wrapping subtraction: what is added to the upper byte to get the lower
+difference-is : (above value d : ℕ) → above < 256 → d < 256 → (d + above) % 256 ≡ value → difference above value ≡ d
+unfolding difference
+difference-is above value d h k e = omega arith
+
+-- and its code
+pub code-under : (above value d : ℕ) → above < 256 → d < 256 → (d + above) % 256 ≡ value → d < 128 → 2 * d ≡ deltaCode above value
+unfolding deltaCode
+code-under above value d h k e l = rw (difference-is above value d h k e, lt-ltb d 128 l)
+
+pub code-over : (above value d : ℕ) → above < 256 → d < 256 → (d + above) % 256 ≡ value → 128 ≤ d → 2 * (255 - d) + 1 ≡ deltaCode above value
+unfolding deltaCode
+code-over above value d h k e l = rw (difference-is above value d h k e, le-ltb d 128 l)
 
 -- of an odd code c, 255 − (c − 1)/2 is 255 − c/2: the form that compiles to wide instructions
 pub odd-code : (code : ℕ) → (code % 2 ≡ 0 → ⊥) → 255 - code / 2 ≡ differenceOf code

@@ -7,3 +7,5 @@ pub mod Segment
 pub mod Outcome
 pub mod Row
 pub mod Plane
+pub mod Packing
+pub mod Writing

@@ -124,7 +124,7 @@ module _ (s : List ℕ) (at : ℕ) where
 pub length-values : (last : ℕ) (s : Segment) → length (values last s) ≡ count s
 length-values last s = simp (length-append, length-replicate)
 
-last-take : (s : List ℕ) (raw last : ℕ) → raw < length s → lastOf last (take (suc raw) s) ≡ getD s raw 0
+pub last-take : (s : List ℕ) (raw last : ℕ) → raw < length s → lastOf last (take (suc raw) s) ≡ getD s raw 0
 last-take [] raw last h = absurd (omega arith)
 last-take (x ∷ s) zero last h = refl
 last-take (x ∷ s) (suc raw) last h = last-take s raw x (omega arith)

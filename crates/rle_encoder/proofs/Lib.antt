@@ -1,0 +1,3 @@
+mod Head
+mod Samples
+mod Steps
