@@ -1,3 +1,4 @@
 mod Head
 mod Samples
 mod Steps
+mod Scan
