@@ -1,2 +1,5 @@
 pub mod Segments
 pub mod Reading
+pub mod LongRun
+pub mod SegmentsOf
+pub mod RowSegments
