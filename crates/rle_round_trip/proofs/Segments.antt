@@ -2,8 +2,9 @@
 use mathlib.Core.Path.{_≡_, refl, sym, _∙_}
 use mathlib.Core.List.{List, [], _∷_, _++_, append-assoc}
 use Prim.Native.Nat.{ℕ, _+_}
+use native.Mathlib.Omega.{arith}
 use lib.ListN.{length, length-append}
-use Rattle.rle_format.specs.Segment.{Segment, values, after, count, bytes, allBytes, Coded}
+use Rattle.rle_format.specs.Segment.{Segment, values, after, count, size, bytes, allBytes, Coded}
 use Rattle.rle_format.proofs.Segment.{length-values}
 
 -- their values, where `before` is the last byte before the first of them
@@ -25,6 +26,9 @@ afterAll before (s ∷ ss) = afterAll (after before s) ss
 abbrev pub AllCoded : List Segment → Type 0
 AllCoded [] = Unit {0}
 AllCoded (s ∷ ss) = Coded s × AllCoded ss
+
+pub length-bytes : (s : Segment) → length (bytes s) ≡ size s
+length-bytes s = omega arith
 
 pub length-allValues : (before : ℕ) (ss : List Segment) → length (allValues before ss) ≡ allCount ss
 length-allValues before [] = refl
