@@ -5,3 +5,5 @@ pub mod SegmentsOf
 pub mod RowSegments
 pub mod Covered
 pub mod Row
+pub mod Samples
+pub mod Packing
