@@ -7,3 +7,4 @@ pub mod Covered
 pub mod Row
 pub mod Samples
 pub mod Packing
+pub mod Rows
