@@ -1,15 +1,10 @@
 -- How many values the segments stand for that lie whole within the first m bytes.
-use mathlib.Core.Path.{_≡_, refl}
-use mathlib.Core.Logic.{⊎-elim}
-use mathlib.Core.List.{List, [], _∷_}
+use mathlib.Core.Path.{_≡_}
+use mathlib.Core.List.{List, _∷_}
 use Prim.Native.Nat.{ℕ, _+_, _-_, _≤_, _<_}
-use native.Mathlib.Omega.{arith}
 use borrow.Author.Tests.{le-leb, lt-leb}
-use lib.ListN.{length}
 use Rattle.rle_format.specs.Segment.{Segment, size, count}
-use Rattle.rle_format.proofs.Cases.{le-or-gt}
 use Rattle.rle_round_trip.specs.Demand.{covered}
-use Rattle.rle_round_trip.proofs.Segments.{allCount}
 
 module _ (s : Segment) (ss : List Segment) (m : ℕ) where
   pub covered-more : size s ≤ m → covered (s ∷ ss) m ≡ count s + covered ss (m - size s)

@@ -2,13 +2,13 @@
 use mathlib.Core.Path.{_≡_, refl, ap, _∙_}
 use mathlib.Core.Logic.{⊎-elim}
 use mathlib.Core.List.{List, [], _++_}
-use Prim.Native.Nat.{ℕ, zero, suc, _+_, _-_, _≤_, _<_}
+use Prim.Native.Nat.{ℕ, zero, suc, _+_, _≤_, _<_}
 use native.Mathlib.Omega.{arith}
 use lib.ListN.{length, take, length-append}
 use lib.Seq.{take-append-le}
 use Rattle.rle_format.specs.Segment.{allBytes}
 use Rattle.rle_format.specs.Pack.{rowSegments, codesAt, planeSegments, packing}
-use Rattle.rle_format.proofs.Cases.{le-or-gt, eq-or-ne}
+use Rattle.rle_format.proofs.Cases.{le-or-gt}
 use Rattle.rle_round_trip.specs.Demand.{Next}
 use Rattle.rle_round_trip.proofs.Segments.{bytes-append}
 

@@ -1,12 +1,12 @@
 -- A row of Coded segments is read back whole, or up to the segment at which it is cut.
-use mathlib.Core.Path.{_≡_, refl, sym, ap, _∙_}
+use mathlib.Core.Path.{_≡_, sym, ap, _∙_}
 use mathlib.Core.Logic.{⊎-elim}
 use mathlib.Core.List.{List, [], _∷_, _++_, append-assoc}
 use Prim.Native.Nat.{ℕ, _+_, _-_, _≤_, _<_}
 use native.Mathlib.Omega.{arith}
-use lib.ListN.{length, take, drop, length-append}
+use lib.ListN.{length, take, length-append}
 use lib.Seq.{take-append-le, take-append-add, drop-at}
-use Rattle.rle_format.specs.Answer.{counted, refused, Outcome, stop, onto}
+use Rattle.rle_format.specs.Answer.{counted, refused, stop, onto}
 use Rattle.rle_format.specs.Segment.{Segment, values, after, size, count, bytes, allBytes, Coded}
 use Rattle.rle_format.proofs.Cases.{le-or-gt}
 use Rattle.rle_format.proofs.Segment.{length-values}

@@ -1,14 +1,13 @@
 -- The packing of a plane's rows is unpacked from the top: the rows that lie whole in front of the rest, and a row that is cut.
-use mathlib.Core.Path.{_≡_, refl, sym, ap, _∙_}
-use mathlib.Core.List.{List, [], _++_, append-assoc}
+use mathlib.Core.Path.{_≡_, sym, ap, _∙_}
+use mathlib.Core.List.{List, _++_, append-assoc}
 use mathlib.Core.Option.{Option}
 use Prim.Native.Nat.{ℕ, zero, suc, _+_, _*_, _≤_, _<_}
 use native.Mathlib.Nat.{zero-mul, suc-mul, zero-add}
 use native.Mathlib.Omega.{arith}
 use lib.ListN.{length, take, getD, length-append}
 use lib.Seq.{take-add, drop-append-seam}
-use Rattle.rle_format.specs.Answer.{counted, refused, Outcome, onto}
-use Rattle.rle_format.specs.Delta.{restoreRow}
+use Rattle.rle_format.specs.Answer.{counted, refused, onto}
 use Rattle.rle_format.specs.Segment.{allBytes}
 use Rattle.rle_format.specs.Pack.{rowSegments, rowAt, codesAt, packing}
 use Rattle.rle_format.specs.Unpack.{unpackRows}
