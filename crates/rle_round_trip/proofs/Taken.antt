@@ -17,11 +17,11 @@ use Rattle.rle_round_trip.proofs.Samples.{aboveAt}
 use Rattle.rle_round_trip.proofs.Packing.{rowPacking, packing-more, length-more, packing-grows, packing-front}
 use Rattle.rle_round_trip.proofs.Rows.{codes-cut, rows-first}
 
-module _ (width height m : ℕ) (samples body : List ℕ) (plane : Plane width height samples) (taken : Taken width height samples m body) where
-  -- k rows have their samples
-  pub rows-within : (k : ℕ) → k ≤ height → k * width ≤ length samples
-  rows-within k h = let l : k * width ≤ height * width = mul-le-mul-right width h in omega (arith, mul-comm width height, plane .enough)
+-- the first k rows have all their samples
+pub rows-within : (width height : ℕ) (samples : List ℕ) → Plane width height samples → (k : ℕ) → k ≤ height → k * width ≤ length samples
+rows-within width height samples plane k h = let l : k * width ≤ height * width = mul-le-mul-right width h in omega (arith, mul-comm width height, plane .enough)
 
+module _ (width height m : ℕ) (samples body : List ℕ) (plane : Plane width height samples) (taken : Taken width height samples m body) where
   pub unpack-all : m ≡ length (packing width height samples) → unpackRows width height none body ≡ record { written = take (width * height) samples; answer = counted m }
   unfolding stop onto
   unpack-all e =
@@ -30,7 +30,7 @@ module _ (width height m : ℕ) (samples body : List ℕ) (plane : Plane width h
       in
       rw (all, mul-comm width height, e)
       (ap (λ (h : ℕ). unpackRows width h none (packing width height samples ++ taken .following)) (sym (add-zero height))
-      ∙ rows-first width samples (plane .are-bytes) height 0 (taken .following) (rows-within height (omega arith))
+      ∙ rows-first width samples (plane .are-bytes) height 0 (taken .following) (rows-within width height samples plane height (omega arith))
       ∙ rw (rows-none width (aboveAt width samples height) (taken .following), append-nil (take (height * width) samples), add-zero))
 
   module _ (r : ℕ) (below : r < height) (next : Next width samples m r) where
@@ -54,5 +54,5 @@ module _ (width height m : ℕ) (samples body : List ℕ) (plane : Plane width h
         let less : m - length (packing width r samples) < length (rowPacking width samples r) = omega (arith, length-more width samples r) in
         rw body-part
         (ap (λ (h : ℕ). unpackRows width h none (packing width r samples ++ rest)) split
-        ∙ rows-first width samples (plane .are-bytes) r (suc (height - suc r)) rest (rows-within r (omega arith))
-        ∙ rw (codes-cut width samples r (rows-within (suc r) below) (height - suc r) (m - length (packing width r samples)) (aboveAt width samples r) less))
+        ∙ rows-first width samples (plane .are-bytes) r (suc (height - suc r)) rest (rows-within width height samples plane r (omega arith))
+        ∙ rw (codes-cut width samples r (rows-within width height samples plane (suc r) below) (height - suc r) (m - length (packing width r samples)) (aboveAt width samples r) less))

@@ -43,24 +43,25 @@ module _ (width height m : ℕ) (samples body dst : List ℕ) (plane : Plane wid
   its-rows : unpackPlane width height (length dst) body ≡ unpackRows width height none body
   its-rows = plane-rows width height (length dst) body (omega (arith, plane)) (omega (arith, plane)) (plane .wide .1) (plane .high .1) room
 
-  all-told : m ≡ length (packing width height samples) → unpackPlane width height (length dst) body ≡ record { written = take (width * height) samples; answer = counted m }
-  all-told e = its-rows ∙ unpack-all width height m samples body plane taken e
+  all-is : m ≡ length (packing width height samples) → unpackPlane width height (length dst) body ≡ record { written = take (width * height) samples; answer = counted m }
+  all-is e = its-rows ∙ unpack-all width height m samples body plane taken e
 
-  part-told : (r : ℕ) → r < height → Next width samples m r → unpackPlane width height (length dst) body
+  part-is : (r : ℕ) → r < height → Next width samples m r → unpackPlane width height (length dst) body
       ≡ record { written = take (r * width) samples ++ take (partOfRow width samples r m) (codesAt width samples r); answer = refused 7 }
-  part-told r h n = its-rows ∙ unpack-part width height m samples body plane taken r h n
+  part-is r h n = its-rows ∙ unpack-part width height m samples body plane taken r h n
 
+  -- a row of which the samples are written keeps them, whatever is written behind
   row-above : (r k : ℕ) → r < k → k ≤ height → (vs : List ℕ) → rowAt width (over dst (take (k * width) samples ++ vs)) r ≡ rowAt width samples r
   unfolding over
   row-above r k h l vs =
       rw (append-assoc (take (k * width) samples) vs (drop (length (take (k * width) samples ++ vs)) dst))
-      (row-front width r (k * width) samples (vs ++ drop (length (take (k * width) samples ++ vs)) dst) (mul-le-mul-right width h) (rows-within width height m samples body plane taken k l))
+      (row-front width r (k * width) samples (vs ++ drop (length (take (k * width) samples ++ vs)) dst) (mul-le-mul-right width h) (rows-within width height samples plane k l))
 
   row-held : (r : ℕ) → r < height → Whole width samples m r → rowAt width left r ≡ rowAt width samples r
   row-held r h whole =
       ⊎-elim
       (λ (l : length (packing width height samples) ≤ m).
-      rw (all-told (omega (arith, taken .most)), mul-comm width height, ← append-nil (take (height * width) samples)) (row-above r height h (omega arith) []))
+      rw (all-is (omega (arith, taken .most)), mul-comm width height, ← append-nil (take (height * width) samples)) (row-above r height h (omega arith) []))
       (λ (l : m < length (packing width height samples)).
       let it = next-row width samples m height l in
       let k = it .0 in
@@ -70,20 +71,20 @@ module _ (width height m : ℕ) (samples body dst : List ℕ) (plane : Plane wid
       (λ (p : k < suc r). absurd (omega (arith, it, packing-grows width samples (suc k) (suc r) p)))
       (le-or-gt (suc r) k)
       in
-      rw (part-told k (it .1) (it .2)) (row-above r k above (omega arith) (take (partOfRow width samples k m) (codesAt width samples k))))
+      rw (part-is k (it .1) (it .2)) (row-above r k above (omega arith) (take (partOfRow width samples k m) (codesAt width samples k))))
       (le-or-gt (length (packing width height samples)) m)
 
-  told : Demand3 width height samples dst m left given
-  told =
+  holds : Demand3 width height samples dst m left given
+  holds =
       record {
         rows = row-held;
         all = λ e. (
           (λ r h. let l = packing-grows width samples (suc r) height h in omega arith),
-          same-answer (all-told e),
-          same-slice dst (all-told e),
+          same-answer (all-is e),
+          same-slice dst (all-is e),
         );
-        part = λ h. let it = next-row width samples m height h in (same-answer (part-told (it .0) (it .1) (it .2)), it);
-        next = λ r h n. same-slice dst (part-told r h n);
+        part = λ h. let it = next-row width samples m height h in (same-answer (part-is (it .0) (it .1) (it .2)), it);
+        next = λ r h n. same-slice dst (part-is r h n);
       }
 
 -- the claim of specs/Claim.antt, written out
@@ -93,4 +94,4 @@ pub demand-three : (width height : ℕ) (samples : List ℕ) → Plane width hei
     → Demand3 width height samples dst m
     (over dst (unpackPlane width height (length dst) body .written))
     (unpackPlane width height (length dst) body .answer)
-demand-three width height samples plane m body taken dst room = told width height m samples body dst plane taken room
+demand-three width height samples plane m body taken dst room = holds width height m samples body dst plane taken room
