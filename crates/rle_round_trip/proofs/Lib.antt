@@ -1,0 +1,13 @@
+pub mod Segments
+pub mod Reading
+pub mod LongRun
+pub mod SegmentsOf
+pub mod RowSegments
+pub mod Covered
+pub mod Row
+pub mod Samples
+pub mod Packing
+pub mod Rows
+pub mod Taken
+pub mod Theorem
+pub mod Determined
