@@ -1,6 +1,7 @@
 pub mod Examples
 pub mod Answer
 pub mod Cases
+pub mod Sides
 pub mod Slice
 pub mod Delta
 pub mod Segment
@@ -9,3 +10,4 @@ pub mod Row
 pub mod Plane
 pub mod Packing
 pub mod Writing
+pub mod PackPlane

@@ -6,12 +6,15 @@ use mathlib.Core.Option.{Option, none, some}
 use Prim.Native.Nat.{ℕ, zero, suc, _+_, _-_, _*_, _≤_, _<_}
 use native.Mathlib.Nat.{mul-le-mul, zero-mul, suc-mul, mul-comm}
 use native.Mathlib.Omega.{arith}
-use borrow.Author.Tests.{eq-eqb, ne-eqb, lt-ltb, le-ltb}
+use borrow.Author.Tests.{lt-ltb, le-ltb}
+use lib.Dec.{ltb}
 use lib.ListN.{length, drop}
-use Rattle.rle_format.specs.Answer.{Answer, counted, refused, Outcome, stop, onto}
+use Rattle.rle_format.specs.Choice.{choose}
+use Rattle.rle_format.specs.Answer.{Answer, counted, refused, Outcome, stop, refuse, onto}
 use Rattle.rle_format.specs.Delta.{undelta, restoreRow}
 use Rattle.rle_format.specs.Unpack.{RowRead, full, stopped, readRow, rowOutcome, unpackRows, unpackPlane}
 use Rattle.rle_format.proofs.Cases.{le-or-gt, eq-or-ne}
+use Rattle.rle_format.proofs.Sides.{no-width, no-height, too-wide, too-high, in-sides}
 use Rattle.rle_format.proofs.Delta.{length-columns}
 use Rattle.rle_format.proofs.Outcome.{Bounded, onto-bounded}
 use Rattle.rle_format.proofs.Row.{row-bounded, rowFrom}
@@ -71,33 +74,37 @@ pub area-most : (w h : ℕ) → w ≤ 8192 → h ≤ 8192 → w * h ≤ 67108864
 area-most w h a b = mul-le-mul a b
 
 module _ (w h room : ℕ) (body : List ℕ) where
-  pub plane-no-width : w ≡ 0 → unpackPlane w h room body ≡ stop (refused 1)
+  -- what follows the tests of the sides
+  abbrev in-room : Outcome
+  in-room = choose (ltb room (w * h)) (refuse 10) (unpackRows w h none body)
+
+  pub plane-no-width : w ≡ 0 → unpackPlane w h room body ≡ refuse 1
   unfolding unpackPlane
-  plane-no-width e = simp (eq-eqb w 0 e)
+  plane-no-width e = no-width refuse w h in-room e
 
   module _ (hw : w ≡ 0 → ⊥) where
-    pub plane-no-height : h ≡ 0 → unpackPlane w h room body ≡ stop (refused 1)
+    pub plane-no-height : h ≡ 0 → unpackPlane w h room body ≡ refuse 1
     unfolding unpackPlane
-    plane-no-height e = simp (ne-eqb w 0 hw, eq-eqb h 0 e)
+    plane-no-height e = no-height refuse w h in-room hw e
 
     module _ (hh : h ≡ 0 → ⊥) where
-      pub plane-wide : 8192 < w → unpackPlane w h room body ≡ stop (refused 2)
+      pub plane-wide : 8192 < w → unpackPlane w h room body ≡ refuse 2
       unfolding unpackPlane
-      plane-wide l = simp (ne-eqb w 0 hw, ne-eqb h 0 hh, lt-ltb 8192 w l)
+      plane-wide l = too-wide refuse w h in-room hw hh l
 
       module _ (lw : w ≤ 8192) where
-        pub plane-high : 8192 < h → unpackPlane w h room body ≡ stop (refused 2)
+        pub plane-high : 8192 < h → unpackPlane w h room body ≡ refuse 2
         unfolding unpackPlane
-        plane-high l = simp (ne-eqb w 0 hw, ne-eqb h 0 hh, le-ltb 8192 w lw, lt-ltb 8192 h l)
+        plane-high l = too-high refuse w h in-room hw hh lw l
 
         module _ (lh : h ≤ 8192) where
-          pub plane-short : room < w * h → unpackPlane w h room body ≡ stop (refused 10)
+          pub plane-short : room < w * h → unpackPlane w h room body ≡ refuse 10
           unfolding unpackPlane
-          plane-short l = simp (ne-eqb w 0 hw, ne-eqb h 0 hh, le-ltb 8192 w lw, le-ltb 8192 h lh, lt-ltb room (w * h) l)
+          plane-short l = in-sides refuse w h in-room hw hh lw lh ∙ simp (lt-ltb room (w * h) l)
 
           pub plane-rows : w * h ≤ room → unpackPlane w h room body ≡ unpackRows w h none body
           unfolding unpackPlane
-          plane-rows l = simp (ne-eqb w 0 hw, ne-eqb h 0 hh, le-ltb 8192 w lw, le-ltb 8192 h lh, le-ltb room (w * h) l)
+          plane-rows l = in-sides refuse w h in-room hw hh lw lh ∙ simp (le-ltb room (w * h) l)
 
 -- ---- how much rows read and write
 

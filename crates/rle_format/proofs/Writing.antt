@@ -6,7 +6,7 @@ use Prim.Native.Nat.{ℕ, _+_, _*_, _-_, _/_, _%_, _≤_, _<_}
 use native.Mathlib.Omega.{arith}
 use borrow.Author.Tests.{lt-ltb, le-ltb, le-leb, lt-leb}
 use lib.ListN.{length, length-append}
-use Rattle.rle_format.specs.Answer.{counted, refused, Outcome, stop, more, onto}
+use Rattle.rle_format.specs.Answer.{counted, refused, Outcome, stop, refuse, more, onto}
 use Rattle.rle_format.specs.Segment.{Segment, size, control, bytes, allBytes}
 use Rattle.rle_format.specs.Pack.{literal, repeat, writeSegments}
 use Rattle.rle_format.proofs.Cases.{le-or-gt}
@@ -17,7 +17,7 @@ pub length-allBytes : (s : Segment) (ss : List Segment) → length (allBytes (s 
 length-allBytes s ss = omega (arith, length-append (bytes s) (allBytes ss))
 
 -- a segment that does not fit, and one that does
-pub write-full : (s : Segment) (ss : List Segment) (room : ℕ) → room < size s → writeSegments (s ∷ ss) room ≡ stop (refused 12)
+pub write-full : (s : Segment) (ss : List Segment) (room : ℕ) → room < size s → writeSegments (s ∷ ss) room ≡ refuse 12
 unfolding writeSegments
 write-full s ss room h = cc (lt-ltb room (size s) h)
 

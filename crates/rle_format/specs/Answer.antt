@@ -22,6 +22,10 @@ pub record Outcome : Type 0 where
 unfoldable pub stop : Answer → Outcome
 stop a = record { written = []; answer = a }
 
+-- a refusal before anything is written
+abbrev pub refuse : (number : ℕ) → Outcome
+refuse r = stop (refused r)
+
 -- n bytes more; a refusal stays as it is
 abbrev pub more : ℕ → Answer → Answer
 more n (counted k) = counted (n + k)

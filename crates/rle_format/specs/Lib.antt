@@ -1,4 +1,5 @@
 pub mod Choice
+pub mod Sides
 pub mod Answer
 pub mod Slice
 pub mod Delta

@@ -1,11 +1,12 @@
 -- Packing: a row's segments, and a plane of rows (document 01, "A plane and its rows" and "A segment", "Writing"; MS-RDPEGDI 3.1.9.2).
 use Prim.Native.Nat.{ℕ, zero, suc, _*_, _-_, _/_, _%_, min}
-use mathlib.Core.Bool.{true, false, _||_}
+use mathlib.Core.Bool.{true, false}
 use mathlib.Core.List.{List, [], _∷_, _++_}
 use lib.Dec.{leb, ltb, eqb}
 use lib.ListN.{length, take, drop, replicate}
 use Rattle.rle_format.specs.Choice.{choose}
-use Rattle.rle_format.specs.Answer.{counted, refused, Outcome, stop, onto}
+use Rattle.rle_format.specs.Sides.{withinSides}
+use Rattle.rle_format.specs.Answer.{counted, Outcome, stop, refuse, onto}
 use Rattle.rle_format.specs.Delta.{deltaCode, columns}
 use Rattle.rle_format.specs.Segment.{Segment, lastOf, size, bytes, allBytes}
 
@@ -91,14 +92,12 @@ unfoldable pub writeSegments : List Segment → (room : ℕ) → Outcome
 writeSegments [] room = stop (counted 0)
 writeSegments (s ∷ ss) room =
     elim (ltb room (size s)) [
-      | true ↦ stop (refused 12)
+      | true ↦ refuse 12
       | false ↦ onto (bytes s) (size s) (writeSegments ss (room - size s))
     ]
 
 -- the table's tests, downwards: 1, 2 and 11; then the segments. `room` is the length of the destination
 unfoldable pub packPlane : (width height room : ℕ) (samples : List ℕ) → Outcome
 packPlane width height room samples =
-    choose (eqb width 0 || eqb height 0) (stop (refused 1))
-    (choose (ltb 8192 width || ltb 8192 height) (stop (refused 2))
-    (choose (ltb (length samples) (width * height)) (stop (refused 11))
-    (writeSegments (planeSegments width height samples) room)))
+    withinSides refuse width height
+    (choose (ltb (length samples) (width * height)) (refuse 11) (writeSegments (planeSegments width height samples) room))

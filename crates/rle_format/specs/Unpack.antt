@@ -1,12 +1,13 @@
 -- Unpacking: a row of segments, and a plane of rows (document 01, "A plane and its rows"; MS-RDPEGDI 3.1.9.2).
 use Prim.Native.Nat.{ℕ, zero, suc, _+_, _-_, _*_}
-use mathlib.Core.Bool.{true, false, _||_}
+use mathlib.Core.Bool.{true, false}
 use mathlib.Core.List.{List, [], _++_}
 use mathlib.Core.Option.{Option, none, some}
-use lib.Dec.{ltb, eqb}
+use lib.Dec.{ltb}
 use lib.ListN.{drop}
 use Rattle.rle_format.specs.Choice.{choose}
-use Rattle.rle_format.specs.Answer.{counted, refused, Outcome, stop, onto}
+use Rattle.rle_format.specs.Sides.{withinSides}
+use Rattle.rle_format.specs.Answer.{counted, refused, Outcome, stop, refuse, onto}
 use Rattle.rle_format.specs.Delta.{restoreRow}
 use Rattle.rle_format.specs.Segment.{segment, no-segment, readSegment, values, size, count, after}
 
@@ -56,7 +57,5 @@ unpackRows width (suc height) above body =
 -- "The plane's answer is the bytes read"
 unfoldable pub unpackPlane : (width height room : ℕ) (body : List ℕ) → Outcome
 unpackPlane width height room body =
-    choose (eqb width 0 || eqb height 0) (stop (refused 1))
-    (choose (ltb 8192 width || ltb 8192 height) (stop (refused 2))
-    (choose (ltb room (width * height)) (stop (refused 10))
-    (unpackRows width height none body)))
+    withinSides refuse width height
+    (choose (ltb room (width * height)) (refuse 10) (unpackRows width height none body))

@@ -4,40 +4,12 @@ use mathlib.Core.Logic.{⊎-elim}
 use mathlib.Core.List.{List, [], _∷_, _++_, append-assoc, append-nil}
 use Prim.Native.Nat.{ℕ, zero, suc, _≤_, _<_}
 use native.Mathlib.Omega.{arith}
-use borrow.Author.Tests.{le-leb, lt-leb, eq-eqb, ne-eqb}
 use lib.ListN.{length, replicate}
 use Rattle.rle_format.specs.Pack.{segmentsOf, segmentsFrom, rowSegments}
 use Rattle.rle_format.proofs.Cases.{le-or-gt, eq-or-ne}
+use Rattle.rle_format.proofs.Packing.{from-same, from-ends, from-joins, from-closed-run, from-closed-raw}
 use Rattle.rle_round_trip.proofs.Segments.{allValues, allCount, afterAll, AllCoded, length-allValues, values-append, coded-append}
 use Rattle.rle_round_trip.proofs.SegmentsOf.{with-run-coded, with-run-values, raw-coded, raw-values}
-
--- ---- `segmentsFrom` one value at a time
-
-module _ (waiting : List ℕ) (last repeats : ℕ) where
-  pub from-closed-run : 3 ≤ repeats → segmentsFrom waiting last repeats [] ≡ segmentsOf (waiting ++ last ∷ []) repeats
-  unfolding segmentsFrom
-  from-closed-run h = rw (le-leb 3 repeats h)
-
-  pub from-closed-raw : repeats < 3 → segmentsFrom waiting last repeats [] ≡ segmentsOf (waiting ++ last ∷ replicate repeats last) 0
-  unfolding segmentsFrom
-  from-closed-raw h = rw (lt-leb 3 repeats h)
-
-  module _ (value : ℕ) (rest : List ℕ) where
-    pub from-same : value ≡ last → segmentsFrom waiting last repeats (value ∷ rest) ≡ segmentsFrom waiting last (suc repeats) rest
-    unfolding segmentsFrom
-    from-same e = rw (eq-eqb value last e, segmentsFrom)
-
-    pub from-ends : (value ≡ last → ⊥) → 3 ≤ repeats
-        → segmentsFrom waiting last repeats (value ∷ rest) ≡ segmentsOf (waiting ++ last ∷ []) repeats ++ segmentsFrom [] value 0 rest
-    unfolding segmentsFrom
-    from-ends e h = cc (ne-eqb value last e, le-leb 3 repeats h)
-
-    pub from-joins : (value ≡ last → ⊥) → repeats < 3
-        → segmentsFrom waiting last repeats (value ∷ rest) ≡ segmentsFrom (waiting ++ last ∷ replicate repeats last) value 0 rest
-    unfolding segmentsFrom
-    from-joins e h = cc (ne-eqb value last e, lt-leb 3 repeats h)
-
--- ---- what they are, and what they stand for
 
 from-coded : (waiting : List ℕ) (last repeats : ℕ) (rest : List ℕ) → AllCoded (segmentsFrom waiting last repeats rest)
 from-coded waiting last repeats [] =

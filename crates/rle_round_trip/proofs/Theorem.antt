@@ -17,6 +17,7 @@ use Rattle.rle_format.proofs.Slice.{take-drop}
 use Rattle.rle_format.proofs.Outcome.{same-answer, same-slice}
 use Rattle.rle_format.proofs.Plane.{plane-rows}
 use Rattle.rle_round_trip.specs.Demand.{Plane, Taken, Whole, Next, partOfRow, Demand3}
+use Rattle.rle_round_trip.specs.Claim.{DemandThree}
 use Rattle.rle_round_trip.proofs.Packing.{packing-grows, next-row}
 use Rattle.rle_round_trip.proofs.Taken.{rows-within, unpack-all, unpack-part}
 
@@ -87,11 +88,5 @@ module _ (width height m : ℕ) (samples body dst : List ℕ) (plane : Plane wid
         next = λ r h n. same-slice dst (part-is r h n);
       }
 
--- the claim of specs/Claim.antt, written out
-pub demand-three : (width height : ℕ) (samples : List ℕ) → Plane width height samples
-    → (m : ℕ) (body : List ℕ) → Taken width height samples m body
-    → (dst : List ℕ) → width * height ≤ length dst
-    → Demand3 width height samples dst m
-    (over dst (unpackPlane width height (length dst) body .written))
-    (unpackPlane width height (length dst) body .answer)
+pub demand-three : DemandThree
 demand-three width height samples plane m body taken dst room = holds width height m samples body dst plane taken room

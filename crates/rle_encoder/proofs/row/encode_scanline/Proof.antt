@@ -22,9 +22,10 @@ abbrev μ-loop : tie.MeasureT-loop
 -- src/row.rt:22:5
 loop-holds : tie.Need-loop-holds Inv-loop μ-loop
 loop-holds c =
-    let a = c .before .before .args in
-    (scanned-begins (a .codes .now) (omega arith),
-    head-rest (head-first (rowSegments (a .codes .now)) (a .dst .now) (a .at) (omega arith)) (scan (a .codes .now) 0 0 1) (scan-begins (a .codes .now) (omega arith)))
+    let a = c .before .before .args in (
+      scanned-begins (a .codes .now) (omega arith),
+      head-rest (head-first (rowSegments (a .codes .now)) (a .dst .now) (a .at) (omega arith)) (scan (a .codes .now) 0 0 1) (scan-begins (a .codes .now) (omega arith)),
+    )
 
 -- src/row.rt:23:12
 shared-slice-read-if1 : tie.Need-shared-slice-read-if1 Inv-loop μ-loop
@@ -46,9 +47,10 @@ loop-less c = search needs
 loop-again : tie.Need-loop-again Inv-loop μ-loop
 loop-again c =
     let l = c .before .before .before .before .loop in
-    let codes = c .before .before .before .before .before .before .before .args .codes .now in
-    (scanned-same codes (l .start) (l .last) (l .i) (l .inv .0) (omega arith) (c .if1 .taken),
-    head-rest (l .inv .1) (scan codes (l .start) (l .last) (l .i + 1)) (scan-same codes (l .start) (l .last) (l .i) (l .inv .0) (omega arith) (c .if1 .taken)))
+    let codes = c .before .before .before .before .before .before .before .args .codes .now in (
+      scanned-same codes (l .start) (l .last) (l .i) (l .inv .0) (omega arith) (c .if1 .taken),
+      head-rest (l .inv .1) (scan codes (l .start) (l .last) (l .i + 1)) (scan-same codes (l .start) (l .last) (l .i) (l .inv .0) (omega arith) (c .if1 .taken)),
+    )
 
 -- src/row.rt:27:12
 sub-if2 : tie.Need-sub-if2 Inv-loop μ-loop
@@ -70,10 +72,11 @@ loop-less-2 c = search needs
 loop-again-2 : tie.Need-loop-again-2 Inv-loop μ-loop
 loop-again-2 c =
     let l = c .before .before .before .before .before .loop in
-    let codes = c .before .before .before .before .before .before .before .before .args .codes .now in
-    (scanned-new codes (l .start) (l .i) (omega arith) (omega arith),
-    head-rest (l .inv .1) (scan codes (l .start) (l .i) (l .i + 1))
-    (scan-joins codes (l .start) (l .last) (l .i) (l .inv .0) (omega arith) (c .before .if1 .left) (omega arith)))
+    let codes = c .before .before .before .before .before .before .before .before .args .codes .now in (
+      scanned-new codes (l .start) (l .i) (omega arith) (omega arith),
+      head-rest (l .inv .1) (scan codes (l .start) (l .i) (l .i + 1))
+          (scan-joins codes (l .start) (l .last) (l .i) (l .inv .0) (omega arith) (c .before .if1 .left) (omega arith)),
+    )
 
 -- src/row.rt:32:51
 add-encode-segment : tie.Need-add-encode-segment Inv-loop μ-loop
@@ -138,11 +141,12 @@ loop-again-3 : tie.Need-loop-again-3 Inv-loop μ-loop
 loop-again-3 c =
     let l = c .before .before .before .before .before .before .before .before .before .before .before .before .before .loop in
     let codes = c .before .before .before .before .before .before .before .before .before .before .before .before .before .before .before .before .args .codes .now in
-    let call = c .before .before .before .before .before .encode-segment in
-    (scanned-new codes (l .i) (l .i) (omega arith) (omega arith),
-    head-turn (l .inv .1) (segmentsOf (take (l .last + 1 - l .start) (drop (l .start) codes)) (l .i - l .last - 1)) (scan codes (l .i) (l .i) (l .i + 1))
-    (call .last .1 .1 .0) (call .result) (c .before .answer .given .0 .0)
-    (scan-ends codes (l .start) (l .last) (l .i) (l .inv .0) (omega arith) (c .before .before .before .before .before .before .before .before .before .if1 .left) (omega arith)) (call .ensures) (c .before .answer .given .1))
+    let call = c .before .before .before .before .before .encode-segment in (
+      scanned-new codes (l .i) (l .i) (omega arith) (omega arith),
+      head-turn (l .inv .1) (segmentsOf (take (l .last + 1 - l .start) (drop (l .start) codes)) (l .i - l .last - 1)) (scan codes (l .i) (l .i) (l .i + 1))
+          (call .last .1 .1 .0) (call .result) (c .before .answer .given .0 .0)
+          (scan-ends codes (l .start) (l .last) (l .i) (l .inv .0) (omega arith) (c .before .before .before .before .before .before .before .before .before .if1 .left) (omega arith)) (call .ensures) (c .before .answer .given .1),
+    )
 
 -- src/row.rt:41:8
 sub-if3 : tie.Need-sub-if3 Inv-loop μ-loop
