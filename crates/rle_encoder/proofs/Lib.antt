@@ -2,3 +2,4 @@ mod Head
 mod Samples
 mod Steps
 mod Scan
+mod Rows
