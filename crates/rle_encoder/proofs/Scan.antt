@@ -11,7 +11,7 @@ use lib.Seq.{drop-cons, drop-drop, take-add, take-suc, getD-take, getD-drop, ext
 use Rattle.rle_format.specs.Segment.{Segment}
 use Rattle.rle_format.specs.Pack.{segmentsOf, segmentsFrom, rowSegments}
 use Rattle.rle_format.proofs.Cases.{le-or-gt}
-use Rattle.rle_format.proofs.Packing.{from-same, from-ends, from-joins, from-closed-run, from-closed-raw}
+use Rattle.rle_format.proofs.SegmentSteps.{from-same, from-ends, from-joins, from-closed-run, from-closed-raw}
 
 -- the segments that are still to be written
 unfoldable pub scan : (codes : List ℕ) (start last i : ℕ) → List Segment

@@ -8,7 +8,7 @@ use lib.Seq.{drop-drop, take-all, getD-drop}
 use Rattle.rle_format.specs.Segment.{Segment, lastOf}
 use Rattle.rle_format.specs.Pack.{literal, repeat, longRun, segmentsOf}
 use Rattle.rle_format.proofs.Segment.{last-take}
-use Rattle.rle_format.proofs.Packing.{longRun-step, longRun-few, longRun-some, segments-short, segments-step, segments-last}
+use Rattle.rle_format.proofs.SegmentSteps.{longRun-step, longRun-few, longRun-some, segments-short, segments-step, segments-last}
 
 -- ---- the long-run writer
 

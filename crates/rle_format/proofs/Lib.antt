@@ -8,6 +8,12 @@ pub mod Segment
 pub mod Outcome
 pub mod Row
 pub mod Plane
-pub mod Packing
+pub mod SegmentSteps
+pub mod Segments
+pub mod LongRun
+pub mod SegmentsOf
+pub mod RowSegments
+pub mod Reading
+pub mod PackingSize
 pub mod Writing
 pub mod PackPlane

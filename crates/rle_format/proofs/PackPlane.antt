@@ -1,13 +1,18 @@
--- Packing a plane: the tests before the segments, in their order, and what the answer is where all segments fit.
-use mathlib.Core.Path.{_≡_, _∙_}
+-- Packing a plane: the tests before the segments, in their order; and a plane that was packed.
+use mathlib.Core.Path.{_≡_, ap, _∙_}
+use mathlib.Core.Logic.{⊎-elim}
 use mathlib.Core.List.{List}
 use Prim.Native.Nat.{ℕ, _*_, _≤_, _<_}
+use native.Mathlib.Omega.{arith}
 use borrow.Author.Tests.{lt-ltb, le-ltb}
 use lib.Dec.{ltb}
 use lib.ListN.{length}
 use Rattle.rle_format.specs.Choice.{choose}
-use Rattle.rle_format.specs.Answer.{Outcome, refuse}
-use Rattle.rle_format.specs.Pack.{planeSegments, writeSegments, packPlane}
+use Rattle.rle_format.specs.Answer.{counted, refused, Outcome, stop, refuse}
+use Rattle.rle_format.specs.Pack.{planeSegments, packing, writeSegments, packPlane}
+use Rattle.rle_format.proofs.Cases.{le-or-gt, eq-or-ne}
+use Rattle.rle_format.proofs.Outcome.{same-answer}
+use Rattle.rle_format.proofs.Writing.{write-all, write-refused}
 use Rattle.rle_format.proofs.Sides.{no-width, no-height, too-wide, too-high, in-sides}
 
 module _ (w h room : ℕ) (samples : List ℕ) where
@@ -42,3 +47,61 @@ module _ (w h room : ℕ) (samples : List ℕ) where
           pub pack-segments : w * h ≤ length samples → packPlane w h room samples ≡ writeSegments (planeSegments w h samples) room
           unfolding packPlane
           pack-segments l = in-sides refuse w h in-source hw hh lw lh ∙ simp (le-ltb (length samples) (w * h) l)
+
+-- ---- a plane that was packed
+
+-- it passed the tests, and all its packing was written and counted
+pub record PackedWhole (w h room : ℕ) (samples : List ℕ) (n : ℕ) : Type 0 where
+  pub wide : (1 ≤ w) × (w ≤ 8192)
+  pub high : (1 ≤ h) × (h ≤ 8192)
+  pub enough : w * h ≤ length samples
+  pub size : n ≡ length (packing w h samples)
+  pub fits : n ≤ room
+  pub whole : packPlane w h room samples .written ≡ packing w h samples
+
+module _ (w h room : ℕ) (samples : List ℕ) (n : ℕ) (e : packPlane w h room samples .answer ≡ counted n) where
+  not-refused : {X : Type 0} (k : ℕ) → packPlane w h room samples .answer ≡ refused k → X
+  not-refused k r = let z : _≡_ {A = ℕ} 0 1 = cc in absurd (omega arith)
+
+  at-entry : {X : Type 0} (k : ℕ) → packPlane w h room samples ≡ refuse k → X
+  unfolding stop
+  at-entry k r = not-refused k (same-answer r)
+
+  written-whole : (w ≡ 0 → ⊥) → (h ≡ 0 → ⊥) → w ≤ 8192 → h ≤ 8192 → w * h ≤ length samples → packPlane w h room samples ≡ writeSegments (planeSegments w h samples) room
+      → PackedWhole w h room samples n
+  unfolding packing
+  written-whole hw hh lw lh l is =
+      ⊎-elim
+      (λ (fits : length (packing w h samples) ≤ room).
+      let all = is ∙ write-all (planeSegments w h samples) room fits in
+      let size : n ≡ length (packing w h samples) = cc (same-answer all) in
+      record {
+        wide = (omega arith, lw);
+        high = (omega arith, lh);
+        enough = l;
+        size = size;
+        fits = omega arith;
+        whole = ap (λ (o : Outcome). o .written) all;
+      })
+      (λ (short : room < length (packing w h samples)). not-refused 12 (same-answer is ∙ write-refused (planeSegments w h samples) room short))
+      (le-or-gt (length (packing w h samples)) room)
+
+  pub packed-whole : PackedWhole w h room samples n
+  packed-whole =
+      ⊎-elim (λ (z : w ≡ 0). at-entry 1 (pack-no-width w h room samples z))
+      (λ (hw : w ≡ 0 → ⊥).
+      ⊎-elim (λ (z : h ≡ 0). at-entry 1 (pack-no-height w h room samples hw z))
+      (λ (hh : h ≡ 0 → ⊥).
+      ⊎-elim
+      (λ (lw : w ≤ 8192).
+      ⊎-elim
+      (λ (lh : h ≤ 8192).
+      ⊎-elim (λ (l : w * h ≤ length samples). written-whole hw hh lw lh l (pack-segments w h room samples hw hh lw lh l))
+      (λ (l : length samples < w * h). at-entry 11 (pack-short w h room samples hw hh lw lh l))
+      (le-or-gt (w * h) (length samples)))
+      (λ (l : 8192 < h). at-entry 2 (pack-high w h room samples hw hh lw l))
+      (le-or-gt h 8192))
+      (λ (l : 8192 < w). at-entry 2 (pack-wide w h room samples hw hh l))
+      (le-or-gt w 8192))
+      (eq-or-ne h 0))
+      (eq-or-ne w 0)

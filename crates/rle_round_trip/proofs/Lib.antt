@@ -1,8 +1,3 @@
-pub mod Segments
-pub mod Reading
-pub mod LongRun
-pub mod SegmentsOf
-pub mod RowSegments
 pub mod Covered
 pub mod Row
 pub mod Samples

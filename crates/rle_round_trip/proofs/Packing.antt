@@ -10,7 +10,7 @@ use Rattle.rle_format.specs.Segment.{allBytes}
 use Rattle.rle_format.specs.Pack.{rowSegments, codesAt, planeSegments, packing}
 use Rattle.rle_format.proofs.Cases.{le-or-gt}
 use Rattle.rle_round_trip.specs.Demand.{Next}
-use Rattle.rle_round_trip.proofs.Segments.{bytes-append}
+use Rattle.rle_format.proofs.Segments.{bytes-append}
 
 -- the bytes of row r alone
 unfoldable pub rowPacking : (width : ℕ) (samples : List ℕ) (r : ℕ) → List ℕ

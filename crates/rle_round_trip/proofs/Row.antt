@@ -12,8 +12,8 @@ use Rattle.rle_format.proofs.Cases.{le-or-gt}
 use Rattle.rle_format.proofs.Segment.{length-values}
 use Rattle.rle_format.proofs.Row.{rowFrom, from-full, from-refused, from-step}
 use Rattle.rle_round_trip.specs.Demand.{covered}
-use Rattle.rle_round_trip.proofs.Segments.{allValues, allCount, AllCoded, length-bytes}
-use Rattle.rle_round_trip.proofs.Reading.{coded-some, read-whole, read-cut}
+use Rattle.rle_format.proofs.Segments.{allValues, allCount, AllCoded, length-bytes}
+use Rattle.rle_format.proofs.Reading.{coded-some, read-whole, read-cut}
 use Rattle.rle_round_trip.proofs.Covered.{covered-more, covered-none}
 
 -- a Coded segment in front of anything

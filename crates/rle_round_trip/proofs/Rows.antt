@@ -15,7 +15,7 @@ use Rattle.rle_format.proofs.Outcome.{onto-none, onto-onto, same-answer}
 use Rattle.rle_format.proofs.Row.{rowFrom}
 use Rattle.rle_format.proofs.Plane.{row-full, row-stopped}
 use Rattle.rle_round_trip.specs.Demand.{covered}
-use Rattle.rle_round_trip.proofs.RowSegments.{segments-coded, segments-values, segments-count}
+use Rattle.rle_format.proofs.RowSegments.{segments-coded, segments-values, segments-count}
 use Rattle.rle_round_trip.proofs.Row.{row-whole, row-cut}
 use Rattle.rle_round_trip.proofs.Samples.{aboveAt, length-codesAt, restore-codes}
 use Rattle.rle_round_trip.proofs.Packing.{rowPacking, packing-none, packing-more}

@@ -5,7 +5,7 @@ use borrow.Author.Needs.{needs}
 use lib.ListN.{length, getD, take, drop}
 use Rattle.rle_format.specs.Segment.{Segment}
 use Rattle.rle_format.specs.Pack.{literal, repeat, segmentsOf, longRun}
-use Rattle.rle_format.proofs.Packing.{longRun-none}
+use Rattle.rle_format.proofs.SegmentSteps.{longRun-none}
 use Rattle.rle_encoder.proofs.Head.{WriteHead, head-first, head-rest, head-turn, head-stop, head-last, head-done}
 use Rattle.rle_encoder.proofs.Steps.{long-turn, few-left, some-left, segment-turn, segment-long, segment-short}
 use Prim.Native.Nat.{ℕ, _+_, _-_, _≤_, _<_}

@@ -5,11 +5,11 @@ use mathlib.Core.List.{List, [], _∷_, _++_, append-assoc, append-nil}
 use Prim.Native.Nat.{ℕ, zero, suc, _≤_, _<_}
 use native.Mathlib.Omega.{arith}
 use lib.ListN.{length, replicate}
 use Rattle.rle_format.specs.Pack.{segmentsOf, segmentsFrom, rowSegments}
 use Rattle.rle_format.proofs.Cases.{le-or-gt, eq-or-ne}
-use Rattle.rle_format.proofs.Packing.{from-same, from-ends, from-joins, from-closed-run, from-closed-raw}
-use Rattle.rle_round_trip.proofs.Segments.{allValues, allCount, afterAll, AllCoded, length-allValues, values-append, coded-append}
-use Rattle.rle_round_trip.proofs.SegmentsOf.{with-run-coded, with-run-values, raw-coded, raw-values}
+use Rattle.rle_format.proofs.SegmentSteps.{from-same, from-ends, from-joins, from-closed-run, from-closed-raw}
+use Rattle.rle_format.proofs.Segments.{allValues, allCount, afterAll, AllCoded, length-allValues, values-append, coded-append}
+use Rattle.rle_format.proofs.SegmentsOf.{with-run-coded, with-run-values, raw-coded, raw-values}
 
 from-coded : (waiting : List ℕ) (last repeats : ℕ) (rest : List ℕ) → AllCoded (segmentsFrom waiting last repeats rest)
 from-coded waiting last repeats [] =

@@ -5,10 +5,10 @@ use mathlib.Core.List.{List, [], _∷_, _++_, append-assoc, append-nil}
 use Prim.Native.Nat.{ℕ, zero, suc, _+_, _*_, _-_, _/_, _≤_, _<_, min}
 use native.Mathlib.Omega.{arith}
 use lib.ListN.{length, take, drop, replicate, length-append, length-take, length-drop, replicate-append-replicate, take-append-drop}
 use Rattle.rle_format.specs.Segment.{lastOf}
 use Rattle.rle_format.specs.Pack.{fifteens, segmentsOf}
-use Rattle.rle_round_trip.proofs.Segments.{allValues, AllCoded}
-use Rattle.rle_round_trip.proofs.LongRun.{same-run, longRun-coded, longRun-values}
+use Rattle.rle_format.proofs.Segments.{allValues, AllCoded}
+use Rattle.rle_format.proofs.LongRun.{same-run, longRun-coded, longRun-values}
 
 lastOf-append : (before : ℕ) (xs ys : List ℕ) → lastOf before (xs ++ ys) ≡ lastOf (lastOf before xs) ys
 lastOf-append before [] ys = refl

@@ -6,9 +6,9 @@ use Prim.Native.Nat.{ℕ, zero, suc, _+_, _*_, _-_, _/_, _%_, _≤_, _<_}
 use native.Mathlib.Omega.{arith}
 use borrow.Author.Tests.{le-leb, lt-leb}
 use lib.ListN.{replicate, length-replicate, replicate-append-replicate}
 use Rattle.rle_format.specs.Pack.{remainder, fortySevens, longRun}
 use Rattle.rle_format.proofs.Cases.{le-or-gt}
-use Rattle.rle_round_trip.proofs.Segments.{allValues, AllCoded}
+use Rattle.rle_format.proofs.Segments.{allValues, AllCoded}
 
 pub same-run : (a b v : ℕ) → a ≡ b → replicate a v ≡ replicate b v
 same-run a b v e = ap (λ (k : ℕ). replicate k v) e
