@@ -6,3 +6,4 @@ pub mod Rows
 pub mod Taken
 pub mod Theorem
 pub mod Determined
+pub mod Trip
