@@ -1,8 +1,10 @@
 //! What the Rust does outside document 01's domain, one small input for each way. docs/DIFFERENCES.md lists them.
 
 use comparer::bytes;
+use comparer::case::Operation;
 use comparer::check::answer_text;
-use comparer::Owned;
+use comparer::demand::{Demand, Plane};
+use comparer::{Case, Input, Owned};
 use std::process::ExitCode;
 
 /// Each place with its inputs, the smallest that show it.
@@ -32,7 +34,7 @@ pub fn print_all() -> ExitCode {
         println!("{place}");
         for text in cases {
             let case = Owned::parse(text).expect("the table's own text");
-            print(&case);
+            print_call(&case);
         }
     }
     ExitCode::SUCCESS
@@ -40,20 +42,53 @@ pub fn print_all() -> ExitCode {
 
 /// Runs one case, wherever it lies.
 pub fn print_one(text: &str) -> ExitCode {
-    let Some(case) = Owned::parse(text) else {
-        eprintln!("not a case: {text}");
-        return ExitCode::from(2);
-    };
-    print(&case);
+    match Input::parse(text) {
+        Some(Input::Call(case)) => print_call(&case),
+        Some(Input::Demand(case)) => print_demand(&case),
+        None => {
+            eprintln!("not a case: {text}");
+            return ExitCode::from(2);
+        }
+    }
     ExitCode::SUCCESS
 }
 
-fn print(case: &Owned) {
-    let mut rust_after = case.before.clone();
-    let rust = original::unpack(&case.body, &mut rust_after, case.width, case.height);
-    let mut port_after = case.before.clone();
-    let port = ours::unpack(&case.body, &mut port_after, case.width, case.height);
+/// What the port does, on slices that are lent.
+fn by_port(case: &Owned, after: &mut [u8]) -> i64 {
+    let function = match case.operation {
+        Operation::Unpack => ours::unpack,
+        Operation::Pack => ours::pack,
+    };
+    function(&case.source, after, case.width, case.height)
+}
+
+fn print_call(case: &Owned) {
     println!("  {case}");
+    print_both(case);
+}
+
+fn print_both(case: &Owned) {
+    let mut rust_after = case.before.clone();
+    let rust = case.view().by_rust(&mut rust_after);
+    let mut port_after = case.before.clone();
+    let port = by_port(case, &mut port_after);
     println!("    the Rust: {rust}, destination {}", bytes::text(&rust_after));
     println!("    the port: {}, destination {}", answer_text(port), bytes::text(&port_after));
+}
+
+/// The packing that the rules make, what both packers make, what the demand wants of the bytes taken, what both unpackers do.
+fn print_demand(case: &Demand) {
+    let (width, height) = (case.width, case.height);
+    let plane = Plane::new(width, height, &case.samples);
+    let packing = &plane.model.packing;
+    println!("  {case}");
+    println!("    the model packs: {} bytes, {}", packing.len(), bytes::text(packing));
+    let before = vec![0xEE; packing.len()];
+    print_both(&Case::pack(width, height, &case.samples, &before).to_owned());
+    let mut wanted = case.before.clone();
+    plane.model.fill(&case.samples, width, case.taken, &mut wanted);
+    let answer = answer_text(if case.taken == packing.len() { case.taken as i64 } else { -7 });
+    println!("    the model, unpacking {}: {answer}, destination {}", case.taken, bytes::text(&wanted));
+    let body = [&packing[..case.taken], &case.following].concat();
+    print_both(&Case::unpack(width, height, &body, &case.before).to_owned());
 }

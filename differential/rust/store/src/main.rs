@@ -29,7 +29,7 @@ impl Stored {
     /// Asks the Rust and keeps its answer.
     pub fn keep(&mut self, width: usize, height: usize, room: usize, body: &[u8]) {
         let before = vec![BEFORE; room];
-        let refused = Case { width, height, body, before: &before }.refused_at_entry();
+        let refused = Case::unpack(width, height, body, &before).refused_at_entry();
         assert_eq!(refused, None, "a case outside the domain");
         assert!(room <= LONGEST && body.len() <= LONGEST, "a case that is too long");
         let mut after = before;
