@@ -47,10 +47,9 @@ fn compare(seconds: u64, seed: u64) -> ExitCode {
     println!("plane unpacking: the Rust's decompress_8bpp_plane and the library's rdp6_decompress_8bpp_plane");
     println!("plane packing: the Rust's compress_8bpp_plane and the library's rdp6_compress_8bpp_plane");
     println!("{seconds} seconds, seed {seed}; each case is called twice, its slices at either end of guarded pages");
-    let begin = Instant::now();
     let library = Library { unpack: rdp6_decompress_8bpp_plane, pack: rdp6_compress_8bpp_plane };
     let mut comparer = Comparer::new(library);
-    let outcome = all_cases(&mut comparer, begin + Duration::from_secs(seconds), seed);
+    let outcome = all_cases(&mut comparer, Duration::from_secs(seconds), seed);
     println!("{}", comparer.tally);
     let total = comparer.tally.total();
     let Err(difference) = outcome else {
@@ -62,8 +61,11 @@ fn compare(seconds: u64, seed: u64) -> ExitCode {
     ExitCode::FAILURE
 }
 
-fn all_cases(comparer: &mut Comparer, end: Instant, seed: u64) -> Outcome {
+/// The fixed cases, then random ones until the time is over, for a third of it at least.
+fn all_cases(comparer: &mut Comparer, time: Duration, seed: u64) -> Outcome {
+    let end = Instant::now() + time;
     fixed_cases(comparer)?;
+    let end = end.max(Instant::now() + time / 3);
     let mut unpacking = unpacking::random::Random::new(seed);
     let mut packing = packing::random::Random::new(seed);
     let mut demand = demand::random::Random::new(seed);

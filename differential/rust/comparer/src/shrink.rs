@@ -57,9 +57,16 @@ fn pieces(len: usize) -> impl Iterator<Item = Range<usize>> {
     sizes.flat_map(move |size| (0..len).step_by(size).map(move |from| from..(from + size).min(len)))
 }
 
-/// Bytes of which some are lower: all of them 0, then one after the other a little.
+/// Bytes of which some are lower: all of them 0, all by the lowest of them, those of one value, then one after the other.
 fn lower_bytes(bytes: &[u8]) -> impl Iterator<Item = Vec<u8>> + '_ {
     let zeros = bytes.iter().any(|&byte| byte != 0).then(|| vec![0; bytes.len()]);
+    let lowest = bytes.iter().copied().min().filter(|&lowest| lowest > 0);
+    let together = lowest.map(|lowest| bytes.iter().map(|byte| byte - lowest).collect());
+    let values = (1..=255).filter(|value| bytes.contains(value));
+    let of_a_value = values.flat_map(move |value| {
+        lower(usize::from(value))
+            .map(move |byte| bytes.iter().map(|&old| if old == value { byte as u8 } else { old }).collect())
+    });
     let singly = (0..bytes.len()).flat_map(move |at| {
         lower(usize::from(bytes[at])).map(move |byte| {
             let mut smaller = bytes.to_vec();
@@ -67,7 +74,7 @@ fn lower_bytes(bytes: &[u8]) -> impl Iterator<Item = Vec<u8>> + '_ {
             smaller
         })
     });
-    zeros.into_iter().chain(singly)
+    zeros.into_iter().chain(together).chain(of_a_value).chain(singly)
 }
 
 /// A destination of `EE` alone, which is easier to read, unless it is one.

@@ -123,7 +123,11 @@ fn long_sides(comparer: &mut Comparer, earlier: &mut Earlier) -> Outcome {
 /// pages each time.
 fn largest_plane(comparer: &mut Comparer, earlier: &mut Earlier) -> Outcome {
     let (width, height) = (MAX_SIDE, MAX_SIDE);
-    let samples: Vec<u8> = (0..width * height).map(|at| (at % width / 100 + at / width) as u8).collect();
+    let first: Vec<u8> = (0..width).map(|at| (at / 100) as u8).collect();
+    let mut samples = Vec::with_capacity(width * height);
+    for row in 0..height {
+        samples.extend(first.iter().map(|value| value.wrapping_add(row as u8)));
+    }
     // Every row under the first is one more than the row above throughout, so that all of them have one packing.
     let [first, two] = [1, 2].map(|rows| original::pack(&samples, width, rows).expect("whole rows with room").len());
     let packed = first + (height - 1) * (two - first);

@@ -39,7 +39,7 @@ impl Random {
             let room = self.short_room(packing.len(), &starts);
             comparer.compare(Kind::RandomPlanes, Case::pack(width, height, &samples, self.earlier.bytes(room)))?;
         }
-        self.other_sources(comparer, samples, (width, height), packing.len())
+        self.other_sources(comparer, samples, (width, height), &starts, packing.len())
     }
 
     /// Room for less than the packing: near the end of a segment, or anywhere.
@@ -58,13 +58,14 @@ impl Random {
         comparer: &mut Comparer,
         samples: Vec<u8>,
         (width, height): (usize, usize),
+        starts: &[usize],
         packed: usize,
     ) -> Outcome {
         let plane = samples.len();
         let more = self.rng.within(1, 2 * width + 40);
         let longer = [samples, self.rng.bytes(more)].concat();
         for len in [plane - 1, self.rng.below(plane), plane + 1, longer.len()] {
-            let room = (packed + self.rng.below(4)).saturating_sub(1);
+            let room = if self.rng.once_in(3) { self.short_room(packed, starts) } else { packed + self.rng.below(3) };
             let case = Case::pack(width, height, &longer[..len], self.earlier.bytes(room));
             comparer.compare(Kind::RandomSources, case)?;
         }

@@ -4,12 +4,13 @@ use super::plane::smaller_planes;
 use super::{lower, lower_bytes, plain};
 use crate::demand::Demand;
 
-/// Of sides, lengths, samples, the bytes taken and the destination's content each lowers one and none that stands before it,
+/// Of sides, lengths, samples, what follows, the bytes taken and the destination's content each lowers one and none that stands before it,
 /// so shrinking ends.
 pub fn smaller(case: &Demand) -> impl Iterator<Item = Demand> + '_ {
     with_smaller_plane(case)
         .chain(with_shorter_slices(case))
         .chain(with_lower_samples(case))
+        .chain(with_lower_following(case))
         .chain(with_fewer_taken(case))
         .chain(with_plain_destination(case))
         .filter(Demand::is_meant)
@@ -58,6 +59,10 @@ fn with_shorter_slices(case: &Demand) -> impl Iterator<Item = Demand> + '_ {
 
 fn with_lower_samples(case: &Demand) -> impl Iterator<Item = Demand> + '_ {
     lower_bytes(&case.samples).flat_map(|samples| replaced(case, Demand { samples, ..case.clone() }))
+}
+
+fn with_lower_following(case: &Demand) -> impl Iterator<Item = Demand> + '_ {
+    lower_bytes(&case.following).map(|following| Demand { following, ..case.clone() })
 }
 
 fn with_fewer_taken(case: &Demand) -> impl Iterator<Item = Demand> + '_ {
