@@ -7,8 +7,10 @@ use comparer::demand::{Demand, Plane};
 use comparer::{Case, Input, Owned};
 use std::process::ExitCode;
 
-/// Each place with its inputs, the smallest that show it.
-const PLACES: [(&str, &[&str]); 5] = [
+/// A place and its inputs, the smallest that show it.
+type Place = (&'static str, &'static [&'static str]);
+
+const UNPACKING: [Place; 5] = [
     ("width 0", &["pu 0 1 - -", "pu 0 9000 - -"]),
     ("height 0", &["pu 1 0 1005 EE", "pu 1 0 - -", "pu 1 0 1005 -"]),
     (
@@ -28,16 +30,48 @@ const PLACES: [(&str, &[&str]); 5] = [
     ("the destination ends in a later row", &["pu 1 2 10051000 EE", "pu 1 2 1005 EE", "pu 1 3 100500 EE*2"]),
 ];
 
+const PACKING: [Place; 6] = [
+    ("width 0", &["pp 0 1 - -", "pp 0 1 05 EE", "pp 0 0 - -", "pp 0 9000 - -"]),
+    ("height 0", &["pp 1 0 - -", "pp 1 0 05 EE*2"]),
+    (
+        "a side over 8192",
+        &[
+            "pp 8193 1 - -",
+            "pp 8193 1 05 EE*2",
+            "pp 8193 1 05*8193 EE*176",
+            "pp 1 8193 - -",
+            "pp 1 8193 05 EE*2",
+            "pp 18446744073709551615 1 - -",
+            "pp 1 18446744073709551615 - -",
+            "pp 1 18446744073709551615 05 EE*2",
+        ],
+    ),
+    (
+        "the source ends inside the last row, and what the decoder says to that",
+        &["pp 2 1 05 EE*2", "pu 2 1 1005 EE*2", "pp 3 2 01020304 EE*6", "pu 3 2 300102031006 EE*6"],
+    ),
+    (
+        "the source ends at a row's start, or inside a row before the last",
+        &["pp 1 1 - -", "pp 1 2 05 EE*2", "pp 2 2 05 EE*2", "pp 3 2 010203 EE*4"],
+    ),
+    ("the source is short, and so is the destination", &["pp 2 1 05 -", "pp 1 2 05 -", "pp 3 2 01020304 EE*4"]),
+];
+
 /// Runs the whole table.
 pub fn print_all() -> ExitCode {
-    for (place, cases) in PLACES {
-        println!("{place}");
-        for text in cases {
-            let case = Owned::parse(text).expect("the table's own text");
-            print_call(&case);
-        }
-    }
+    println!("plane unpacking");
+    UNPACKING.iter().for_each(print_place);
+    println!("plane packing");
+    PACKING.iter().for_each(print_place);
     ExitCode::SUCCESS
+}
+
+fn print_place((place, cases): &Place) {
+    println!(" {place}");
+    for text in *cases {
+        let case = Owned::parse(text).expect("the table's own text");
+        print_call(&case);
+    }
 }
 
 /// Runs one case, wherever it lies.

@@ -11,9 +11,9 @@ pub const LENGTHS: [usize; 54] = [
 const OTHERS: [usize; 5] = [1, 2, 3, 4, 17];
 
 /// How many different values stand beside a run: around 15, 30 and 45, which go out by fifteens.
-const LITERALS: [usize; 15] = [13, 14, 15, 16, 17, 29, 30, 31, 32, 33, 44, 45, 46, 47, 48];
+pub const LITERALS: [usize; 15] = [13, 14, 15, 16, 17, 29, 30, 31, 32, 33, 44, 45, 46, 47, 48];
 /// The runs beside them.
-const BESIDE: [usize; 12] = [1, 2, 3, 4, 5, 15, 16, 17, 19, 20, 32, 64];
+pub const BESIDE: [usize; 12] = [1, 2, 3, 4, 5, 15, 16, 17, 19, 20, 32, 64];
 
 /// All of them.
 pub fn rows() -> Vec<Vec<u8>> {
@@ -41,12 +41,12 @@ pub fn rows() -> Vec<Vec<u8>> {
 }
 
 /// Three runs of different values.
-fn three_runs(lengths: [usize; 3]) -> Vec<u8> {
+pub fn three_runs(lengths: [usize; 3]) -> Vec<u8> {
     lengths.iter().zip([7, 0, 255]).flat_map(|(&length, value)| std::iter::repeat_n(value, length)).collect()
 }
 
 /// Values that are all different, and none is 0.
-fn literal(count: usize) -> Vec<u8> {
+pub fn literal(count: usize) -> Vec<u8> {
     (1..=count).map(|at| (at * 37) as u8).collect()
 }
 
