@@ -76,7 +76,7 @@ fn with_other_sources(
 ) -> Outcome {
     let packed = original::pack(samples, width, height).expect("a whole plane with room").len();
     let last = samples[samples.len() - 1];
-    let longer = [&samples[..], &[last, last, last, last, 1, 2, 3, 4, 5]].concat();
+    let longer = [samples, &[last, last, last, last, 1, 2, 3, 4, 5]].concat();
     for len in [0, samples.len() / 2, samples.len() - 1, samples.len() + 1, longer.len()] {
         for room in [0, packed - 1, packed, packed + 9] {
             comparer.compare(Kind::Sources, Case::pack(width, height, &longer[..len], earlier.bytes(room)))?;

@@ -7,7 +7,7 @@ const EVERY_ROOM: usize = 24;
 /// Of longer ones no more segments than this are looked at, of very long ones fewer.
 const SEGMENTS: usize = 24;
 const VERY_LONG: usize = 500;
-const FEWER_SEGMENTS: usize = 5;
+const FEWER_SEGMENTS: usize = 3;
 
 /// Every room from none to one too many, or for a longer packing some around the ends of its segments.
 pub fn rooms(packing: &[u8]) -> Vec<usize> {

@@ -50,28 +50,43 @@ pub fn literal(count: usize) -> Vec<u8> {
     (1..=count).map(|at| (at * 37) as u8).collect()
 }
 
-/// A plane of two rows. The upper one is of one value or of changing ones; the codes of the lower one are `codes`.
-pub fn under_a_row(codes: &[u8], flat: bool) -> Vec<u8> {
-    let upper: Vec<u8> = (0..codes.len()).map(|at| if flat { 100 } else { (at * 29) as u8 }).collect();
-    let lower = upper.iter().zip(codes).map(|(&above, &code)| above.wrapping_add(difference(code)));
-    upper.iter().copied().chain(lower).collect()
+/// The row whose codes under another are these.
+fn under(upper: &[u8], codes: &[u8]) -> Vec<u8> {
+    upper.iter().zip(codes).map(|(&above, &code)| above.wrapping_add(difference(code))).collect()
 }
 
 /// The difference that a code stands for.
 fn difference(code: u8) -> u8 {
-    if code % 2 == 0 {
-        code / 2
-    } else {
-        255 - code / 2
+    match code & 1 {
+        0 => code / 2,
+        _ => 255 - code / 2,
     }
 }
 
-/// A plane of one row and one or two of two rows for each of the rows: width, height, samples.
+/// A plane of two rows. The upper one is of one value or of changing ones; the codes of the lower one are `codes`.
+pub fn under_a_row(codes: &[u8], flat: bool) -> Vec<u8> {
+    let upper: Vec<u8> = (0..codes.len()).map(|at| if flat { 100 } else { (at * 29) as u8 }).collect();
+    let lower = under(&upper, codes);
+    [upper, lower].concat()
+}
+
+/// A plane of three rows: the row, then the same backwards as codes, then once more as codes.
+fn three_times(row: &[u8]) -> Vec<u8> {
+    let backwards: Vec<u8> = row.iter().rev().copied().collect();
+    let second = under(row, &backwards);
+    let third = under(&second, row);
+    [row, &second, &third].concat()
+}
+
+/// For each of the rows a plane of it alone and one of two rows, for some also one of three: width, height, samples.
 pub fn planes() -> Vec<(usize, usize, Vec<u8>)> {
     let mut planes = Vec::new();
     for (at, row) in rows().into_iter().enumerate() {
         let width = row.len();
         planes.push((width, 2, under_a_row(&row, at % 3 != 0)));
+        if at % 4 == 0 {
+            planes.push((width, 3, three_times(&row)));
+        }
         planes.push((width, 1, row));
     }
     planes

@@ -3,10 +3,18 @@
 use super::{lower, lower_bytes, plain};
 use crate::case::Owned;
 
+/// Up to this side all lower ones are tried.
+const EVERY_SIDE: usize = 128;
+
+fn lower_side(side: usize) -> impl Iterator<Item = usize> {
+    let every = if side <= EVERY_SIDE { side } else { 0 };
+    (0..every).chain(lower(side).filter(move |_| every == 0))
+}
+
 /// Lower heights and widths. Heights go first: what is left out below changes nothing above.
 pub fn lower_sides(case: &Owned) -> impl Iterator<Item = (usize, usize)> + '_ {
-    let widths = lower(case.width).map(|width| (width, case.height));
-    let heights = lower(case.height).map(|height| (case.width, height));
+    let widths = lower_side(case.width).map(|width| (width, case.height));
+    let heights = lower_side(case.height).map(|height| (case.width, height));
     heights.chain(widths)
 }
 
