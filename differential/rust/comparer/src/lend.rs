@@ -105,8 +105,12 @@ fn reserve_stretch() {
     });
 }
 
+/// The bytes of a page. They lie as a page does, which makes comparing quicker.
+#[repr(align(4096))]
+struct Page([u8; PAGE]);
+
 /// The bytes of a page that are not lent. No two neighbours are equal and none is 0 or `EE`.
-static CANARIES: [u8; PAGE] = {
+static CANARIES: Page = Page({
     let mut page = [0; PAGE];
     let mut i = 0;
     while i < PAGE {
@@ -114,7 +118,7 @@ static CANARIES: [u8; PAGE] = {
         i += 1;
     }
     page
-};
+});
 
 /// Where a lent slice lies in its pages.
 #[derive(Clone, Copy, Debug, PartialEq, Eq)]
@@ -148,7 +152,7 @@ impl Region {
     fn fill_with_canaries(&self) {
         for offset in (0..self.len).step_by(PAGE) {
             // SAFETY: a page of this region.
-            unsafe { ptr::copy_nonoverlapping(CANARIES.as_ptr(), self.start.add(offset), PAGE) };
+            unsafe { ptr::copy_nonoverlapping(CANARIES.0.as_ptr(), self.start.add(offset), PAGE) };
         }
     }
 
@@ -190,7 +194,7 @@ impl Region {
         };
         while at < end {
             let to = end.min((at / PAGE + 1) * PAGE);
-            if self.slice(at, to - at) != &CANARIES[at % PAGE..][..to - at] {
+            if self.slice(at, to - at) != &CANARIES.0[at % PAGE..][..to - at] {
                 return false;
             }
             at = to;
@@ -205,7 +209,7 @@ impl Region {
         }
         let from = self.offset(len, side);
         // SAFETY: where the slice lay in the only page.
-        unsafe { ptr::copy_nonoverlapping(CANARIES[from..].as_ptr(), self.start.add(from), len) };
+        unsafe { ptr::copy_nonoverlapping(CANARIES.0[from..].as_ptr(), self.start.add(from), len) };
     }
 
     /// Closes the forbidden pages on both sides again and renews all canaries.
