@@ -1,33 +1,56 @@
 //! Compares one call with what it must do.
 
 use crate::bytes;
-use crate::case::{Case, Owned};
-use crate::lend::{Lender, SIDES};
+use crate::case::{Case, Operation, Owned};
+use crate::input::Input;
+use crate::lend::{Lender, Side, SIDES};
 use crate::tally::{Kind, Tally};
 use original::Answer;
 use std::fmt;
 
-/// A plane unpacker as a library has it: body, destination, width, height; bytes read or minus the refusal's number.
-pub type Unpacker = unsafe extern "C" fn(*const u8, usize, *mut u8, usize, usize, usize) -> i64;
+/// A plane unpacker or packer as a library has it: source, destination, width, height; bytes read or written, or minus the
+/// refusal's number.
+pub type Function = unsafe extern "C" fn(*const u8, usize, *mut u8, usize, usize, usize) -> i64;
+
+/// What is held to the Rust.
+#[derive(Clone, Copy)]
+pub struct Library {
+    pub unpack: Function,
+    pub pack: Function,
+}
+
+impl Library {
+    fn function(&self, operation: Operation) -> Function {
+        match operation {
+            Operation::Unpack => self.unpack,
+            Operation::Pack => self.pack,
+        }
+    }
+}
 
 /// A call that does not do what it must.
 #[derive(Clone, Debug)]
 pub struct Difference {
-    pub case: Owned,
+    pub case: Input,
     pub reason: String,
     pub wanted: Answer,
     pub wanted_after: Vec<u8>,
-    pub got: i64,
+    /// Whose call it was.
+    pub whose: &'static str,
+    /// What that answered, in words.
+    pub got: String,
     pub got_after: Vec<u8>,
 }
 
+/// Nothing, or the difference that was found.
+pub type Outcome = Result<(), Box<Difference>>;
+
 impl fmt::Display for Difference {
     fn fmt(&self, f: &mut fmt::Formatter<'_>) -> fmt::Result {
-        let judge = if self.case.view().refused_at_entry().is_some() { "document 01" } else { "the Rust" };
         writeln!(f, "different: {}", self.reason)?;
         writeln!(f, "  {}", self.case)?;
-        writeln!(f, "  {judge}: {}, destination {}", self.wanted, bytes::text(&self.wanted_after))?;
-        write!(f, "  the library: {}, destination {}", answer_text(self.got), bytes::text(&self.got_after))
+        writeln!(f, "  {}: {}, destination {}", self.case.judge(), self.wanted, bytes::text(&self.wanted_after))?;
+        write!(f, "  {}: {}, destination {}", self.whose, self.got, bytes::text(&self.got_after))
     }
 }
 
@@ -36,23 +59,24 @@ pub fn answer_text(number: i64) -> String {
     if number < 0 {
         format!("refusal {}", number.unsigned_abs())
     } else {
-        format!("{number} read")
+        format!("{number} bytes")
     }
 }
 
-/// An unpacker, what is lent to it, and what was compared so far.
+/// A library, what is lent to it, and what was compared so far.
 pub struct Comparer {
-    unpacker: Unpacker,
+    library: Library,
     lender: Lender,
-    wanted_after: Vec<u8>,
-    got_after: Vec<u8>,
+    /// What the destination must hold after the call, and what it holds.
+    pub(crate) wanted_after: Vec<u8>,
+    pub(crate) got_after: Vec<u8>,
     pub tally: Tally,
 }
 
 impl Comparer {
-    pub fn new(unpacker: Unpacker) -> Self {
+    pub fn new(library: Library) -> Self {
         Comparer {
-            unpacker,
+            library,
             lender: Lender::default(),
             wanted_after: Vec::new(),
             got_after: Vec::new(),
@@ -61,16 +85,28 @@ impl Comparer {
     }
 
     /// Compares a case and counts it.
-    pub fn compare(&mut self, kind: Kind, case: Case<'_>) -> Result<(), Box<Difference>> {
+    pub fn compare(&mut self, kind: Kind, case: Case<'_>) -> Outcome {
+        self.compare_at(kind, case, &SIDES)
+    }
+
+    /// The same with the slices at these sides of their pages only, where both would take too long.
+    pub fn compare_at(&mut self, kind: Kind, case: Case<'_>, sides: &[Side]) -> Outcome {
         let wanted = self.ask(case);
         self.tally.count(kind, &wanted);
-        self.hold_to(case, wanted)
+        self.hold_to(case, wanted, sides)
     }
 
     /// Compares a case that is not to be counted.
-    pub fn look(&mut self, case: Case<'_>) -> Result<(), Box<Difference>> {
-        let wanted = self.ask(case);
-        self.hold_to(case, wanted)
+    pub fn look(&mut self, input: &Input) -> Outcome {
+        match input {
+            Input::Call(case) => self.look_at_call(case),
+            Input::Demand(case) => self.look_at_demand(case),
+        }
+    }
+
+    fn look_at_call(&mut self, case: &Owned) -> Outcome {
+        let wanted = self.ask(case.view());
+        self.hold_to(case.view(), wanted, &SIDES)
     }
 
     /// What must be answered; `wanted_after` gets what the destination must hold.
@@ -79,32 +115,50 @@ impl Comparer {
         self.wanted_after.extend_from_slice(case.before);
         match case.refused_at_entry() {
             Some(number) => Answer::Refused(number),
-            None => original::unpack(case.body, &mut self.wanted_after, case.width, case.height),
+            None => case.by_rust(&mut self.wanted_after),
         }
     }
 
-    /// Calls the unpacker with the slices at either side of their pages.
-    fn hold_to(&mut self, case: Case<'_>, wanted: Answer) -> Result<(), Box<Difference>> {
-        for side in SIDES {
-            let (got, harm) = self.lender.call(self.unpacker, case, side, &mut self.got_after);
-            let reason = if let Some(harm) = harm {
-                harm
-            } else if wanted.number() != Some(got) {
-                "the answer".to_owned()
-            } else if self.wanted_after != self.got_after {
-                "the destination".to_owned()
-            } else {
-                continue;
-            };
-            return Err(Box::new(Difference {
-                case: case.to_owned(),
-                reason,
-                wanted,
-                wanted_after: self.wanted_after.clone(),
-                got,
-                got_after: self.got_after.clone(),
-            }));
+    fn hold_to(&mut self, case: Case<'_>, wanted: Answer, sides: &[Side]) -> Outcome {
+        let Some((reason, got)) = self.library_fault(case, &wanted, sides) else {
+            return Ok(());
+        };
+        Err(self.difference(Input::Call(case.to_owned()), reason, wanted, "the library", answer_text(got)))
+    }
+
+    /// Calls the library with the slices at these sides of their pages, and holds it to the answer and to `wanted_after`.
+    /// What it does wrong, if anything, with its answer; `got_after` then has its destination.
+    pub(crate) fn library_fault(&mut self, case: Case<'_>, wanted: &Answer, sides: &[Side]) -> Option<(String, i64)> {
+        let function = self.library.function(case.operation);
+        for &side in sides {
+            let (got, harm) = self.lender.call(function, case, side, &mut self.got_after);
+            if let Some(reason) = harm.or_else(|| self.fault(wanted.number() == Some(got))) {
+                return Some((reason, got));
+            }
         }
-        Ok(())
+        None
+    }
+
+    /// What differs, if anything, once it is known whether the answers are the same.
+    pub(crate) fn fault(&self, same_answer: bool) -> Option<String> {
+        if !same_answer {
+            Some("the answer".to_owned())
+        } else if self.wanted_after != self.got_after {
+            Some("the destination".to_owned())
+        } else {
+            None
+        }
+    }
+
+    pub(crate) fn difference(
+        &self,
+        case: Input,
+        reason: String,
+        wanted: Answer,
+        whose: &'static str,
+        got: String,
+    ) -> Box<Difference> {
+        let (wanted_after, got_after) = (self.wanted_after.clone(), self.got_after.clone());
+        Box::new(Difference { case, reason, wanted, wanted_after, whose, got, got_after })
     }
 }

@@ -5,7 +5,7 @@
 //! told and made smaller instead of the program dying.
 
 use crate::case::Case;
-use crate::check::Unpacker;
+use crate::check::Function;
 use std::cell::Cell;
 use std::ffi::{c_int, c_void};
 use std::ptr;
@@ -105,8 +105,12 @@ fn reserve_stretch() {
     });
 }
 
+/// The bytes of a page. They lie as a page does, which makes comparing quicker.
+#[repr(align(4096))]
+struct Page([u8; PAGE]);
+
 /// The bytes of a page that are not lent. No two neighbours are equal and none is 0 or `EE`.
-static CANARIES: [u8; PAGE] = {
+static CANARIES: Page = Page({
     let mut page = [0; PAGE];
     let mut i = 0;
     while i < PAGE {
@@ -114,7 +118,7 @@ static CANARIES: [u8; PAGE] = {
         i += 1;
     }
     page
-};
+});
 
 /// Where a lent slice lies in its pages.
 #[derive(Clone, Copy, Debug, PartialEq, Eq)]
@@ -148,7 +152,7 @@ impl Region {
     fn fill_with_canaries(&self) {
         for offset in (0..self.len).step_by(PAGE) {
             // SAFETY: a page of this region.
-            unsafe { ptr::copy_nonoverlapping(CANARIES.as_ptr(), self.start.add(offset), PAGE) };
+            unsafe { ptr::copy_nonoverlapping(CANARIES.0.as_ptr(), self.start.add(offset), PAGE) };
         }
     }
 
@@ -190,7 +194,7 @@ impl Region {
         };
         while at < end {
             let to = end.min((at / PAGE + 1) * PAGE);
-            if self.slice(at, to - at) != &CANARIES[at % PAGE..][..to - at] {
+            if self.slice(at, to - at) != &CANARIES.0[at % PAGE..][..to - at] {
                 return false;
             }
             at = to;
@@ -205,7 +209,7 @@ impl Region {
         }
         let from = self.offset(len, side);
         // SAFETY: where the slice lay in the only page.
-        unsafe { ptr::copy_nonoverlapping(CANARIES[from..].as_ptr(), self.start.add(from), len) };
+        unsafe { ptr::copy_nonoverlapping(CANARIES.0[from..].as_ptr(), self.start.add(from), len) };
     }
 
     /// Closes the forbidden pages on both sides again and renews all canaries.
@@ -250,24 +254,24 @@ fn region_for(regions: &mut Vec<Option<Region>>, len: usize) -> &Region {
 }
 
 impl Lender {
-    /// Calls the unpacker on a case, its slices lying at this side of their pages. `after` gets the destination. Answers
+    /// Calls the function on a case, its slices lying at this side of their pages. `after` gets the destination. Answers
     /// what it answered, and what it did that it may not do, if anything.
     pub fn call(
         &mut self,
-        unpacker: Unpacker,
+        function: Function,
         case: Case<'_>,
         side: Side,
         after: &mut Vec<u8>,
     ) -> (i64, Option<String>) {
-        let (room, len) = (case.before.len(), case.body.len());
+        let (room, len) = (case.before.len(), case.source.len());
         let source = region_for(&mut self.sources, len);
         let destination = region_for(&mut self.destinations, room);
-        let src = source.lend(case.body, side);
+        let src = source.lend(case.source, side);
         let dst = destination.lend(case.before, side);
         TOUCHED.set(0);
         CURRENT.set((&raw const case).cast());
         // SAFETY: both are lent for this call. That it keeps to them is what is tested.
-        let answer = unsafe { unpacker(src, len, dst, room, case.width, case.height) };
+        let answer = unsafe { function(src, len, dst, room, case.width, case.height) };
         CURRENT.set(ptr::null());
         after.clear();
         after.extend_from_slice(destination.lent(room, side));
@@ -285,20 +289,20 @@ impl Lender {
 
 /// What a call did outside its destination, if anything.
 fn harm_done(source: &Region, destination: &Region, case: Case<'_>, side: Side) -> Option<String> {
-    let (room, len) = (case.before.len(), case.body.len());
+    let (room, len) = (case.before.len(), case.source.len());
     let touched = TOUCHED.replace(0);
     if touched != 0 {
         if let Some(place) = source.told(touched, len, side) {
-            return Some(format!("touches a byte outside the body, {place}"));
+            return Some(format!("touches a byte outside the source, {place}"));
         }
         let place = destination.told(touched, room, side).unwrap_or("far from it".to_owned());
         return Some(format!("touches a byte outside the destination, {place}"));
     }
-    if source.lent(len, side) != case.body {
-        return Some("writes to the body".to_owned());
+    if source.lent(len, side) != case.source {
+        return Some("writes to the source".to_owned());
     }
     if !source.canaries_live(len, side) {
-        return Some("writes beside the body".to_owned());
+        return Some("writes beside the source".to_owned());
     }
     if !destination.canaries_live(room, side) {
         return Some("writes beside the destination".to_owned());

@@ -1,18 +1,21 @@
-//! Holds a plane unpacker to the Rust inside document 01's domain and to document 01 outside it, byte by byte, on slices
-//! whose surroundings are watched.
+//! Holds a plane unpacker and a plane packer to the Rust inside document 01's domain and to document 01 outside it, byte
+//! by byte, on slices whose surroundings are watched; and both pairs, the Rust's and the library's, to demand 3.
 
 pub mod bytes;
 pub mod case;
 pub mod check;
-pub mod exhaustive;
+pub mod demand;
+pub mod input;
 pub mod lend;
+pub mod packing;
 pub mod planes;
-pub mod random;
 pub mod rng;
-pub mod rows;
 pub mod shrink;
+pub mod strings;
 pub mod tally;
+pub mod unpacking;
 
 pub use case::{Case, Owned};
-pub use check::{Comparer, Difference, Unpacker};
+pub use check::{Comparer, Difference, Function, Library, Outcome};
+pub use input::Input;
 pub use rng::Rng;

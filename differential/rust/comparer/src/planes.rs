@@ -1,5 +1,6 @@
 //! Samples of planes, bodies made segment by segment, and what destinations hold before a call.
 
+use crate::case::MAX_SIDE;
 use crate::rng::Rng;
 
 /// Widths around which a segment's counts change: 15 raw bytes, runs of 16, 32 and 47, and the longest side.
@@ -106,6 +107,21 @@ pub fn sides(rng: &mut Rng) -> (usize, usize) {
     }
 }
 
+/// Sides of which one at least is refused.
+pub fn sides_outside(rng: &mut Rng) -> (usize, usize) {
+    let (width, height) = sides(rng);
+    let wrong = match rng.below(4) {
+        0 | 1 => 0,
+        2 => MAX_SIDE + rng.within(1, 1000),
+        _ => (rng.word() as usize) | (MAX_SIDE << 1),
+    };
+    match rng.below(3) {
+        0 => (wrong, height),
+        1 => (width, wrong),
+        _ => (wrong, *rng.pick(&[0, MAX_SIDE + 1, 9000, usize::MAX])),
+    }
+}
+
 /// How a body is made segment by segment.
 #[derive(Clone, Copy)]
 pub struct Making {
@@ -142,6 +158,22 @@ pub fn counts(control: u8) -> (usize, usize) {
         2 => (0, 32 + high),
         _ => (high, low),
     }
+}
+
+/// The places in a right body where a segment starts.
+pub fn segment_starts(body: &[u8]) -> Vec<usize> {
+    let mut starts = Vec::new();
+    let mut at = 0;
+    while at < body.len() {
+        starts.push(at);
+        at += 1 + counts(body[at]).0;
+    }
+    starts
+}
+
+/// The room that every packing of such a plane has enough of: at worst every 15 raw bytes have a control byte.
+pub fn longest_packing(width: usize, height: usize) -> usize {
+    height * (width + width.div_ceil(15))
 }
 
 /// A control byte of a segment that is not longer than what is left; one without raw bytes if the row opens and has room.

@@ -3,6 +3,14 @@
 use original::Answer;
 use std::fmt;
 
+/// What is compared.
+#[derive(Clone, Copy, PartialEq, Eq)]
+enum Part {
+    Unpacking,
+    Packing,
+    Demand,
+}
+
 /// Where a case comes from.
 #[derive(Clone, Copy, PartialEq, Eq)]
 pub enum Kind {
@@ -19,39 +27,97 @@ pub enum Kind {
     OpeningRuns,
     Noise,
     Sides,
+    SmallPlanes,
+    TellingRows,
+    Sources,
+    PackTable,
+    LongSides,
+    LargestPlane,
+    RandomPlanes,
+    RandomSources,
+    RandomSides,
+    DemandSmall,
+    DemandTelling,
+    DemandLong,
+    DemandRandom,
 }
 
-/// Each kind with its line of the report, in the order of the enum.
-const KINDS: [(Kind, &str); 13] = [
-    (Kind::Short, "all bodies of up to 2 bytes"),
-    (Kind::Alphabet, "bodies of 3 to 5 bytes of a telling alphabet"),
-    (Kind::Rooms, "every destination length around width x height"),
-    (Kind::Table, "a table of sides, most of them refused"),
-    (Kind::Largest, "planes of 8192 x 8192"),
-    (Kind::Whole, "planes packed by the Rust, whole"),
-    (Kind::Following, "packed planes with bytes following"),
-    (Kind::Cut, "packed planes, cut"),
-    (Kind::Damaged, "packed planes, 1 to 3 bytes damaged"),
-    (Kind::Segments, "bodies made segment by segment"),
-    (Kind::OpeningRuns, "the same, rows opened by a run without raw bytes"),
-    (Kind::Noise, "bodies of random bytes"),
-    (Kind::Sides, "random sides outside the domain"),
+/// Each kind with its part and its line of the report, in the order of the enum.
+const KINDS: [(Kind, Part, &str); 26] = [
+    (Kind::Short, Part::Unpacking, "all bodies of up to 2 bytes"),
+    (Kind::Alphabet, Part::Unpacking, "bodies of 3 to 5 bytes of a telling alphabet"),
+    (Kind::Rooms, Part::Unpacking, "every destination length around width x height"),
+    (Kind::Table, Part::Unpacking, "a table of sides, most of them refused"),
+    (Kind::Largest, Part::Unpacking, "planes of 8192 x 8192"),
+    (Kind::Whole, Part::Unpacking, "planes packed by the Rust, whole"),
+    (Kind::Following, Part::Unpacking, "packed planes with bytes following"),
+    (Kind::Cut, Part::Unpacking, "packed planes, cut"),
+    (Kind::Damaged, Part::Unpacking, "packed planes, 1 to 3 bytes damaged"),
+    (Kind::Segments, Part::Unpacking, "bodies made segment by segment"),
+    (Kind::OpeningRuns, Part::Unpacking, "the same, rows opened by a run without raw bytes"),
+    (Kind::Noise, Part::Unpacking, "bodies of random bytes"),
+    (Kind::Sides, Part::Unpacking, "random sides outside the domain"),
+    (Kind::SmallPlanes, Part::Packing, "all planes of up to 12 samples, or 6 of four values"),
+    (Kind::TellingRows, Part::Packing, "rows of telling runs and literals"),
+    (Kind::Sources, Part::Packing, "sources longer and shorter than the plane"),
+    (Kind::PackTable, Part::Packing, "a table of sides, most of them refused"),
+    (Kind::LongSides, Part::Packing, "sides of 8191 and 8192"),
+    (Kind::LargestPlane, Part::Packing, "planes of 8192 x 8192"),
+    (Kind::RandomPlanes, Part::Packing, "random planes"),
+    (Kind::RandomSources, Part::Packing, "random planes, sources longer or shorter"),
+    (Kind::RandomSides, Part::Packing, "random sides outside the domain"),
+    (Kind::DemandSmall, Part::Demand, "all planes of up to 8 samples, every cut"),
+    (Kind::DemandTelling, Part::Demand, "rows of telling runs and literals"),
+    (Kind::DemandLong, Part::Demand, "sides of 8191 and 8192"),
+    (Kind::DemandRandom, Part::Demand, "random planes"),
 ];
+
+/// How the cases of a part came out.
+#[derive(Clone, Default)]
+struct Answers {
+    done: u64,
+    /// By the number of the refusal.
+    refused: [u64; 13],
+}
+
+impl Answers {
+    fn all(&self) -> u64 {
+        self.done + self.refused.iter().sum::<u64>()
+    }
+
+    /// The cases that are held to document 01, since it refuses them before the Rust is of use.
+    fn outside(&self) -> u64 {
+        [1, 2, 10, 11].iter().map(|&number| self.refused[number]).sum()
+    }
+
+    /// The two lines on how they came out: what a done case has done, the refusals inside the domain and outside it.
+    fn write(&self, f: &mut fmt::Formatter<'_>, done: &str, inside: &[usize], outside: &[usize]) -> fmt::Result {
+        let listed = |numbers: &[usize]| {
+            let texts: Vec<_> =
+                numbers.iter().map(|&number| format!("by {number}: {}", self.refused[number])).collect();
+            texts.join(", ")
+        };
+        let held = self.all() - self.outside();
+        writeln!(f, "  inside the domain, held to the Rust: {held}")?;
+        writeln!(f, "    ({done} {}, refused {})", self.done, listed(inside))?;
+        writeln!(f, "  outside the domain, held to document 01: {}", self.outside())?;
+        writeln!(f, "    (refused {})", listed(outside))
+    }
+}
 
 #[derive(Clone, Default)]
 pub struct Tally {
     kinds: [u64; KINDS.len()],
-    read: u64,
-    /// By the number of the refusal.
-    refused: [u64; 13],
+    parts: [Answers; 3],
 }
 
 impl Tally {
     pub fn count(&mut self, kind: Kind, wanted: &Answer) {
         self.kinds[kind as usize] += 1;
+        let answers = &mut self.parts[KINDS[kind as usize].1 as usize];
         match wanted {
-            Answer::Refused(number) => self.refused[usize::from(*number)] += 1,
-            _ => self.read += 1,
+            Answer::Refused(number) => answers.refused[usize::from(*number)] += 1,
+            _ => answers.done += 1,
         }
     }
 
@@ -59,22 +125,27 @@ impl Tally {
         self.kinds.iter().sum()
     }
 
-    /// The cases that are held to document 01, since it refuses them before the Rust is of use.
-    pub fn outside(&self) -> u64 {
-        self.refused[1] + self.refused[2] + self.refused[10]
+    /// The lines of one part.
+    fn write_kinds(&self, f: &mut fmt::Formatter<'_>, of: Part) -> fmt::Result {
+        for (kind, _, name) in KINDS.iter().filter(|line| line.1 == of) {
+            writeln!(f, "  {name:<52}{:>11}", self.kinds[*kind as usize])?;
+        }
+        Ok(())
     }
 }
 
 impl fmt::Display for Tally {
     fn fmt(&self, f: &mut fmt::Formatter<'_>) -> fmt::Result {
-        for (kind, name) in KINDS {
-            writeln!(f, "  {name:<52}{:>11}", self.kinds[kind as usize])?;
-        }
-        let no = self.refused;
-        let inside = self.total() - self.outside();
-        writeln!(f, "inside the domain, held to the Rust: {inside}")?;
-        writeln!(f, "  (read {}, refused by 7: {}, by 8: {}, by 9: {})", self.read, no[7], no[8], no[9])?;
-        writeln!(f, "outside the domain, held to document 01: {}", self.outside())?;
-        write!(f, "  (refused by 1: {}, by 2: {}, by 10: {})", no[1], no[2], no[10])
+        let [unpacking, packing, demand] = &self.parts;
+        writeln!(f, "plane unpacking: {}", unpacking.all())?;
+        self.write_kinds(f, Part::Unpacking)?;
+        unpacking.write(f, "read", &[7, 8, 9], &[1, 2, 10])?;
+        writeln!(f, "plane packing: {}", packing.all())?;
+        self.write_kinds(f, Part::Packing)?;
+        packing.write(f, "written", &[12], &[1, 2, 11])?;
+        writeln!(f, "demand 3, packed and unpacked again: {}", demand.all())?;
+        self.write_kinds(f, Part::Demand)?;
+        writeln!(f, "  both pairs held to a model of document 01's rules: {}", demand.all())?;
+        write!(f, "    (whole {}, cut and refused by 7: {})", demand.done, demand.refused[7])
     }
 }

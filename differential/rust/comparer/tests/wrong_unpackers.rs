@@ -1,11 +1,14 @@
 //! The comparer must find every one of these mistakes, and none in a right unpacker.
 
+mod support;
+
 use comparer::case::MAX_SIDE;
-use comparer::exhaustive;
 use comparer::planes::counts;
-use comparer::random::Random;
 use comparer::shrink::shrink;
-use comparer::{Comparer, Difference, Unpacker};
+use comparer::unpacking::fixed;
+use comparer::unpacking::random::Random;
+use comparer::{Comparer, Difference, Function, Library};
+use support::{first_refused, Slices, RIGHT_PACK};
 
 const RIGHT: u8 = 0;
 const LAST_BYTE_CARRIED: u8 = 1;
@@ -28,31 +31,6 @@ const ZERO_CONTROL_SKIPPED: u8 = 17;
 const REST_CLEARED: u8 = 18;
 const BODY_MUST_END: u8 = 19;
 
-/// The slices of one call. Indices are not tested: a mistake may pass them, as it would in a library.
-struct Slices {
-    src: *const u8,
-    src_len: usize,
-    dst: *mut u8,
-    dst_len: usize,
-}
-
-impl Slices {
-    fn read(&self, at: usize) -> u8 {
-        // SAFETY: inside the body, or outside by a mistake made on purpose, into a page that the comparer watches.
-        unsafe { self.src.add(at).read_volatile() }
-    }
-
-    fn sample(&self, at: usize) -> u8 {
-        // SAFETY: inside the destination.
-        unsafe { self.dst.add(at).read_volatile() }
-    }
-
-    fn write(&self, at: usize, byte: u8) {
-        // SAFETY: as for `read`.
-        unsafe { self.dst.add(at).write_volatile(byte) }
-    }
-}
-
 /// The refusal at entry, if any, or 0.
 fn refused_at_entry<const MISTAKE: u8>(room: usize, width: usize, height: usize) -> i64 {
     let most = if MISTAKE == SIDES_OF_8193 { MAX_SIDE + 1 } else { MAX_SIDE };
@@ -69,7 +47,7 @@ fn refused_at_entry<const MISTAKE: u8>(room: usize, width: usize, height: usize)
         LARGE_BEFORE_ZERO => [1, 0, 2],
         _ => [0, 1, 2],
     };
-    order.iter().map(|&at| tests[at]).find(|test| test.0).map_or(0, |test| test.1)
+    first_refused(tests, order)
 }
 
 /// The raw bytes and the run of a control byte.
@@ -209,9 +187,9 @@ fn finish<const MISTAKE: u8>(slices: &Slices, samples: usize, read: usize) -> i6
 }
 
 /// The smallest difference that the comparer finds in an unpacker, with some rounds of random cases.
-fn difference_in(unpacker: Unpacker) -> Option<Box<Difference>> {
-    let mut comparer = Comparer::new(unpacker);
-    let mut outcome = exhaustive::run(&mut comparer);
+fn difference_in(unpack: Function) -> Option<Box<Difference>> {
+    let mut comparer = Comparer::new(Library { unpack, pack: RIGHT_PACK });
+    let mut outcome = fixed::run(&mut comparer);
     let mut random = Random::new(1);
     for _ in 0..2000 {
         outcome = outcome.and_then(|()| random.round(&mut comparer));
@@ -220,14 +198,14 @@ fn difference_in(unpacker: Unpacker) -> Option<Box<Difference>> {
 }
 
 /// Finds a mistake by random cases alone: these must be worth their time too.
-fn random_difference_in(unpacker: Unpacker) -> Option<Box<Difference>> {
-    let mut comparer = Comparer::new(unpacker);
+fn random_difference_in(unpack: Function) -> Option<Box<Difference>> {
+    let mut comparer = Comparer::new(Library { unpack, pack: RIGHT_PACK });
     let mut random = Random::new(2);
     (0..20_000).find_map(|_| random.round(&mut comparer).err())
 }
 
 /// The mistake is found, both ways, and its smallest input is as small as this one.
-fn is_found(unpacker: Unpacker, smallest: &str) {
+fn is_found(unpacker: Function, smallest: &str) {
     let difference = difference_in(unpacker).expect("a mistake is found");
     assert_eq!(difference.case.to_string(), smallest, "{difference}");
     assert!(random_difference_in(unpacker).is_some(), "random cases find nothing");

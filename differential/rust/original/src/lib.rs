@@ -6,15 +6,15 @@ include!(concat!(env!("OUT_DIR"), "/modules.rs"));
 mod panics;
 
 use ironrdp_core::WriteCursor;
-use rdp6::rle::{compress_8bpp_plane, decompress_8bpp_plane, RleDecodeError};
+use rdp6::rle::{compress_8bpp_plane, decompress_8bpp_plane, RleDecodeError, RleEncodeError};
 use std::fmt;
 
-/// What the Rust answers to a plane that it is to unpack.
+/// What the Rust answers to a plane that it is to unpack or to pack.
 #[derive(Clone, Debug, PartialEq, Eq)]
 pub enum Answer {
-    /// So many bytes were read.
-    Read(usize),
-    /// Document 01's number: 7, 8 or 9 from the Rust itself.
+    /// So many bytes were read by unpacking, or written by packing.
+    Done(usize),
+    /// Document 01's number: 7, 8 or 9 from unpacking, 11 or 12 from packing.
     Refused(u8),
     /// The destination ended inside the first row. No number of document 01: it refuses by 10 before.
     WriteError,
@@ -23,10 +23,10 @@ pub enum Answer {
 }
 
 impl Answer {
-    /// The answer in one number, as the library gives it: bytes read, or minus the refusal's number.
+    /// The answer in one number, as the library gives it: bytes read or written, or minus the refusal's number.
     pub fn number(&self) -> Option<i64> {
         match self {
-            Answer::Read(count) => i64::try_from(*count).ok(),
+            Answer::Done(count) => i64::try_from(*count).ok(),
             Answer::Refused(number) => Some(-i64::from(*number)),
             Answer::WriteError | Answer::Panic(_) => None,
         }
@@ -36,7 +36,7 @@ impl Answer {
 impl fmt::Display for Answer {
     fn fmt(&self, f: &mut fmt::Formatter<'_>) -> fmt::Result {
         match self {
-            Answer::Read(count) => write!(f, "{count} read"),
+            Answer::Done(count) => write!(f, "{count} bytes"),
             Answer::Refused(number) => write!(f, "refusal {number}"),
             Answer::WriteError => write!(f, "WriteDecompressedData"),
             Answer::Panic(place) => write!(f, "panic at {place}"),
@@ -47,7 +47,7 @@ impl fmt::Display for Answer {
 /// `decompress_8bpp_plane`. The destination may have been written to after a panic too.
 pub fn unpack(src: &[u8], dst: &mut [u8], width: usize, height: usize) -> Answer {
     match panics::caught(|| decompress_8bpp_plane(src, dst, width, height)) {
-        Ok(Ok(count)) => Answer::Read(count),
+        Ok(Ok(count)) => Answer::Done(count),
         Ok(Err(RleDecodeError::ReadCompressedData(_))) => Answer::Refused(7),
         Ok(Err(RleDecodeError::InvalidSegmentHeader)) => Answer::Refused(8),
         Ok(Err(RleDecodeError::SegmentDoNotFitScanline)) => Answer::Refused(9),
@@ -56,7 +56,19 @@ pub fn unpack(src: &[u8], dst: &mut [u8], width: usize, height: usize) -> Answer
     }
 }
 
-/// `compress_8bpp_plane` of width times height samples, with room enough. `None` is an error that there should not be.
+/// `compress_8bpp_plane` of the samples, which may be more or fewer than the plane has. The destination may have been
+/// written to after an error or a panic too.
+pub fn compress(samples: &[u8], dst: &mut [u8], width: usize, height: usize) -> Answer {
+    let mut cursor = WriteCursor::new(dst);
+    match panics::caught(|| compress_8bpp_plane(samples.iter().copied(), &mut cursor, width, height)) {
+        Ok(Ok(count)) => Answer::Done(count),
+        Ok(Err(RleEncodeError::NotEnoughBytes)) => Answer::Refused(11),
+        Ok(Err(RleEncodeError::BufferTooSmall)) => Answer::Refused(12),
+        Err(place) => Answer::Panic(place),
+    }
+}
+
+/// The packing of width times height samples, with room enough. `None` is an error that there should not be.
 pub fn pack(samples: &[u8], width: usize, height: usize) -> Option<Vec<u8>> {
     // At worst every 15 raw bytes have a control byte.
     let mut packed = vec![0; height * (width + width.div_ceil(15))];
@@ -68,7 +80,7 @@ pub fn pack(samples: &[u8], width: usize, height: usize) -> Option<Vec<u8>> {
 
 #[cfg(test)]
 mod tests {
-    use super::{pack, unpack, Answer};
+    use super::{compress, pack, unpack, Answer};
 
     #[test]
     fn example_14_whole_and_cut() {
@@ -76,11 +88,22 @@ mod tests {
         let packed = pack(&samples, 17, 2).unwrap();
         assert_eq!(packed, [0x1F, 9, 0x10, 9, 0x1F, 2, 0x10, 2]);
         let mut plane = vec![0xEE; 34];
-        assert_eq!(unpack(&packed, &mut plane, 17, 2), Answer::Read(8));
+        assert_eq!(unpack(&packed, &mut plane, 17, 2), Answer::Done(8));
         assert_eq!(plane, samples);
         let mut cut = vec![0xEE; 34];
         assert_eq!(unpack(&packed[..6], &mut cut, 17, 2), Answer::Refused(7));
         assert_eq!(cut, [&[9; 17][..], &[2; 16], &[0xEE]].concat());
+    }
+
+    #[test]
+    fn packing_with_room_without_and_with_too_few_samples() {
+        let mut dst = vec![0xEE; 5];
+        assert_eq!(compress(&[9; 18], &mut dst, 17, 1), Answer::Done(4));
+        assert_eq!(dst, [0x1F, 9, 0x10, 9, 0xEE]);
+        let mut short = vec![0xEE; 3];
+        assert_eq!(compress(&[9; 17], &mut short, 17, 1), Answer::Refused(12));
+        assert_eq!(short, [0x1F, 9, 0xEE]);
+        assert_eq!(compress(&[9; 17], &mut dst, 17, 2), Answer::Refused(11));
     }
 
     #[test]

@@ -1,7 +1,7 @@
-//! Which cases are stored: some around every boundary.
+//! Which cases of unpacking are stored: some around every boundary.
 
 use crate::Stored;
-use comparer::planes::{self, Look, Making, LOOKS, WIDTHS};
+use comparer::planes::{self, segment_starts, Look, Making, LOOKS, WIDTHS};
 use comparer::Rng;
 
 /// Every part in turn, each with numbers of its own, so that a change in one leaves the others as they are.
@@ -58,17 +58,6 @@ fn every_control_byte(stored: &mut Stored, rng: &mut Rng) {
             stored.keep(width, 1, width, &body[..raw]);
         }
     }
-}
-
-/// The places in a body where a segment starts.
-fn segment_starts(body: &[u8]) -> Vec<usize> {
-    let mut starts = Vec::new();
-    let mut at = 0;
-    while at < body.len() {
-        starts.push(at);
-        at += 1 + planes::counts(body[at]).0;
-    }
-    starts
 }
 
 /// At every segment of some right bodies: control byte 0, no control byte, no raw byte behind it, one that passes the width.

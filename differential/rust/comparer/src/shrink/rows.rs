@@ -27,7 +27,7 @@ fn segment_at(body: &[u8], left: usize) -> Option<(Segment, usize)> {
 
 impl Rows {
     pub fn of(case: &Owned) -> Rows {
-        let mut body = &case.body[..];
+        let mut body = &case.source[..];
         let mut rows = Vec::new();
         while rows.len() < case.height && !body.is_empty() {
             let (mut row, mut left) = (Vec::new(), case.width);
@@ -100,7 +100,7 @@ mod tests {
     fn whole_narrower_and_lower() {
         let case = Owned::parse("pu 20 2 1F09130911031001FF EE*40").unwrap();
         let rows = Rows::of(&case);
-        assert_eq!(rows.body(20, None), case.body);
+        assert_eq!(rows.body(20, None), case.source);
         assert_eq!(rows.body(18, None), [0x1F, 9, 0x10, 9, 0x10, 9, 0x11, 0x10, 0, 0x10, 1, 0xFF]);
         assert_eq!(rows.body(20, Some(0)), [0x11, 3, 0x10, 1, 0xFF]);
     }

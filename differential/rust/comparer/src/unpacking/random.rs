@@ -1,12 +1,10 @@
 //! The part that goes on until the time is over.
 
-use crate::case::{Case, MAX_SIDE};
-use crate::check::{Comparer, Difference};
+use crate::case::Case;
+use crate::check::{Comparer, Outcome};
 use crate::planes::{self, Earlier, Making, LOOKS};
 use crate::rng::Rng;
 use crate::tally::Kind;
-
-type Outcome = Result<(), Box<Difference>>;
 
 /// Packings up to this length are cut at every place, longer ones at some.
 const CUT_EVERYWHERE: usize = 160;
@@ -52,7 +50,7 @@ impl Random {
         (width, height): (usize, usize),
     ) -> Outcome {
         let room = self.room(width * height);
-        comparer.compare(kind, Case { width, height, body, before: self.earlier.bytes(room) })
+        comparer.compare(kind, Case::unpack(width, height, body, self.earlier.bytes(room)))
     }
 
     /// A plane that the Rust packs: whole, with bytes following, cut, damaged.
@@ -64,7 +62,7 @@ impl Random {
         let packed = original::pack(&plane, width, height).expect("a whole plane with room");
         for room in [0, 1, self.rng.within(2, 5000)].map(|more| width * height + more) {
             let before = self.earlier.bytes(room);
-            comparer.compare(Kind::Whole, Case { width, height, body: &packed, before })?;
+            comparer.compare(Kind::Whole, Case::unpack(width, height, &packed, before))?;
         }
         let more = self.rng.within(1, 40);
         let following = [&packed[..], &self.rng.bytes(more)].concat();
@@ -137,20 +135,10 @@ impl Random {
     /// Sides of which one at least is refused.
     fn outside(&mut self, comparer: &mut Comparer) -> Outcome {
         for _ in 0..8 {
-            let (mut width, mut height) = planes::sides(&mut self.rng);
-            let wrong = match self.rng.below(4) {
-                0 | 1 => 0,
-                2 => MAX_SIDE + self.rng.within(1, 1000),
-                _ => (self.rng.word() as usize) | (MAX_SIDE << 1),
-            };
-            match self.rng.below(3) {
-                0 => width = wrong,
-                1 => height = wrong,
-                _ => (width, height) = (wrong, *self.rng.pick(&[0, MAX_SIDE + 1, 9000, usize::MAX])),
-            }
+            let (width, height) = planes::sides_outside(&mut self.rng);
             let (len, room) = (self.rng.within(0, 40), self.rng.within(0, 600));
             let body = self.rng.bytes(len);
-            comparer.compare(Kind::Sides, Case { width, height, body: &body, before: self.earlier.bytes(room) })?;
+            comparer.compare(Kind::Sides, Case::unpack(width, height, &body, self.earlier.bytes(room)))?;
         }
         Ok(())
     }

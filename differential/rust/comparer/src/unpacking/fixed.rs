@@ -1,12 +1,11 @@
 //! The part that is the same in every run: all short bodies, all destination lengths, the refused sides.
 
-use crate::case::{Case, MAX_SIDE};
-use crate::check::{Comparer, Difference};
+use crate::case::{Case, MAX_SIDE, TELLING_SIDES};
+use crate::check::{Comparer, Outcome};
 use crate::planes::{self, Earlier, Look};
 use crate::rng::Rng;
+use crate::strings::each_string;
 use crate::tally::Kind;
-
-type Outcome = Result<(), Box<Difference>>;
 
 /// The widths of short bodies.
 const SHORT_WIDTHS: [usize; 25] =
@@ -34,7 +33,7 @@ pub fn run(comparer: &mut Comparer) -> Outcome {
 fn short_bodies(comparer: &mut Comparer, earlier: &mut Earlier) -> Outcome {
     let all: Vec<u8> = (0..=255).collect();
     for len in 0..=2 {
-        each_body(&all, len, &mut |body| on_planes(comparer, earlier, Kind::Short, body, &SHORT_WIDTHS, 3))?;
+        each_string(&all, len, &mut |body| on_planes(comparer, earlier, Kind::Short, body, &SHORT_WIDTHS, 3))?;
     }
     Ok(())
 }
@@ -48,7 +47,7 @@ fn bodies_over(
     widths: &[usize],
     tallest: usize,
 ) -> Outcome {
-    each_body(alphabet, len, &mut |body| on_planes(comparer, earlier, Kind::Alphabet, body, widths, tallest))
+    each_string(alphabet, len, &mut |body| on_planes(comparer, earlier, Kind::Alphabet, body, widths, tallest))
 }
 
 /// One body on planes of these widths and heights 1 to `tallest`, the destination mostly longer than needed by a little.
@@ -63,31 +62,10 @@ fn on_planes(
     for &width in widths {
         for height in 1..=tallest {
             let room = width * height + (width + body.len()) % 3;
-            comparer.compare(kind, Case { width, height, body, before: earlier.bytes(room) })?;
+            comparer.compare(kind, Case::unpack(width, height, body, earlier.bytes(room)))?;
         }
     }
     Ok(())
-}
-
-/// Counts through the bodies of a length, as a number whose digits are the alphabet.
-fn each_body(alphabet: &[u8], len: usize, visit: &mut dyn FnMut(&[u8]) -> Outcome) -> Outcome {
-    let mut digits = vec![0; len];
-    let mut body = vec![alphabet[0]; len];
-    loop {
-        visit(&body)?;
-        let mut at = len;
-        loop {
-            if at == 0 {
-                return Ok(());
-            }
-            at -= 1;
-            digits[at] = (digits[at] + 1) % alphabet.len();
-            body[at] = alphabet[digits[at]];
-            if digits[at] != 0 {
-                break;
-            }
-        }
-    }
 }
 
 /// Every destination length from 0 to a little over width x height, with bodies that fill the plane and that do not.
@@ -101,7 +79,7 @@ fn destination_lengths(comparer: &mut Comparer, earlier: &mut Earlier) -> Outcom
             for body in bodies {
                 for room in 0..=width * height + 4 {
                     let before = earlier.bytes(room);
-                    comparer.compare(Kind::Rooms, Case { width, height, body, before })?;
+                    comparer.compare(Kind::Rooms, Case::unpack(width, height, body, before))?;
                 }
             }
         }
@@ -109,22 +87,16 @@ fn destination_lengths(comparer: &mut Comparer, earlier: &mut Earlier) -> Outcom
     Ok(())
 }
 
-#[rustfmt::skip]
-const SIDES: [usize; 16] = [
-    0, 1, 2, 3, MAX_SIDE - 1, MAX_SIDE, MAX_SIDE + 1, 9000, 16384, 65536, 1 << 32, (1 << 32) + 1, 1 << 62, usize::MAX / 2 + 1,
-    usize::MAX - 1, usize::MAX,
-];
-
 /// Sides of which one at least is refused, or that ask for more than any destination: also those whose product does not
 /// fit a word, or wraps to a small number.
 fn refused_sides(comparer: &mut Comparer, earlier: &mut Earlier) -> Outcome {
     const BODIES: [&[u8]; 6] = [&[], &[0], &[0x10, 5], &[3], &[0x03, 0x03, 0x03, 0x03], &[0xF2; 40]];
-    for width in SIDES {
-        for height in SIDES {
+    for width in TELLING_SIDES {
+        for height in TELLING_SIDES {
             for body in BODIES {
                 for room in [0, 1, 2, 9, 64, 4096, 5000] {
                     let before = earlier.bytes(room);
-                    comparer.compare(Kind::Table, Case { width, height, body, before })?;
+                    comparer.compare(Kind::Table, Case::unpack(width, height, body, before))?;
                 }
             }
         }
@@ -139,7 +111,7 @@ fn largest_planes(comparer: &mut Comparer, earlier: &mut Earlier) -> Outcome {
     let packed = original::pack(&plane, width, height).expect("a whole plane with room");
     let before = earlier.bytes(width * height);
     for body in [&packed[..], &packed[..packed.len() - 1]] {
-        comparer.compare(Kind::Largest, Case { width, height, body, before })?;
+        comparer.compare(Kind::Largest, Case::unpack(width, height, body, before))?;
     }
-    comparer.compare(Kind::Largest, Case { width, height, body: &packed, before: &before[1..] })
+    comparer.compare(Kind::Largest, Case::unpack(width, height, &packed, &before[1..]))
 }

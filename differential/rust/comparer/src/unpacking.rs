@@ -1,0 +1,4 @@
+//! The cases of plane unpacking.
+
+pub mod fixed;
+pub mod random;

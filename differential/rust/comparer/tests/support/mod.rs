@@ -1,0 +1,94 @@
+//! What the wrong functions are made of.
+
+#![allow(dead_code)]
+
+use comparer::{Case, Function};
+
+/// The slices of one call. Indices are not tested: a mistake may pass them, as it would in a library.
+pub struct Slices {
+    pub src: *const u8,
+    pub src_len: usize,
+    pub dst: *mut u8,
+    pub dst_len: usize,
+}
+
+impl Slices {
+    pub fn read(&self, at: usize) -> u8 {
+        // SAFETY: inside the source, or outside by a mistake made on purpose, into a page that the comparer watches.
+        unsafe { self.src.add(at).read_volatile() }
+    }
+
+    /// A byte of the destination.
+    pub fn sample(&self, at: usize) -> u8 {
+        // SAFETY: inside the destination.
+        unsafe { self.dst.add(at).read_volatile() }
+    }
+
+    pub fn write(&self, at: usize, byte: u8) {
+        // SAFETY: as for `read`.
+        unsafe { self.dst.add(at).write_volatile(byte) }
+    }
+
+    /// The source as a slice.
+    pub fn source(&self) -> &[u8] {
+        if self.src_len == 0 {
+            return &[];
+        }
+        // SAFETY: lent for the call.
+        unsafe { std::slice::from_raw_parts(self.src, self.src_len) }
+    }
+
+    /// The destination as a slice.
+    pub fn destination(&mut self) -> &mut [u8] {
+        if self.dst_len == 0 {
+            return &mut [];
+        }
+        // SAFETY: lent for the call, and nothing else holds it.
+        unsafe { std::slice::from_raw_parts_mut(self.dst, self.dst_len) }
+    }
+}
+
+/// What document 01 and the Rust do with a case.
+fn done_right(case: Case<'_>, after: &mut [u8]) -> i64 {
+    match case.refused_at_entry() {
+        Some(number) => -i64::from(number),
+        None => case.by_rust(after).number().expect("an answer inside the domain"),
+    }
+}
+
+unsafe extern "C" fn right_unpack(
+    src: *const u8,
+    src_len: usize,
+    dst: *mut u8,
+    dst_len: usize,
+    width: usize,
+    height: usize,
+) -> i64 {
+    let mut slices = Slices { src, src_len, dst, dst_len };
+    let before = slices.destination().to_vec();
+    let body = slices.source().to_vec();
+    done_right(Case::unpack(width, height, &body, &before), slices.destination())
+}
+
+unsafe extern "C" fn right_pack(
+    src: *const u8,
+    src_len: usize,
+    dst: *mut u8,
+    dst_len: usize,
+    width: usize,
+    height: usize,
+) -> i64 {
+    let mut slices = Slices { src, src_len, dst, dst_len };
+    let before = slices.destination().to_vec();
+    let samples = slices.source().to_vec();
+    done_right(Case::pack(width, height, &samples, &before), slices.destination())
+}
+
+/// An unpacker and a packer without a mistake.
+pub const RIGHT_UNPACK: Function = right_unpack;
+pub const RIGHT_PACK: Function = right_pack;
+
+/// The order in which the refusals at entry are tested: zero, large, short.
+pub fn first_refused(tests: [(bool, i64); 3], order: [usize; 3]) -> i64 {
+    order.iter().map(|&at| tests[at]).find(|test| test.0).map_or(0, |test| test.1)
+}

@@ -1,0 +1,286 @@
+//! Demand 3 must find every one of these mistakes, by its own cases alone, and none in a right pair.
+
+mod support;
+
+use comparer::demand::random::Random;
+use comparer::demand::{fixed, Model};
+use comparer::planes::{counts, segment_starts};
+use comparer::shrink::shrink;
+use comparer::{Comparer, Difference, Function, Library};
+use support::{Slices, RIGHT_PACK, RIGHT_UNPACK};
+
+const ALWAYS_7: u8 = 1;
+const SEVEN_IF_CUT: u8 = 2;
+const INVENTED_COUNT: u8 = 3;
+const COUNT_IS_ALL: u8 = 4;
+const NEXT_ROW_AS_SAMPLES: u8 = 5;
+const NEXT_ROW_UNTOUCHED: u8 = 6;
+const NEXT_ROW_CLEARED: u8 = 7;
+const HALF_A_SEGMENT: u8 = 8;
+const LAST_ROW_CODED: u8 = 9;
+const REST_CLEARED: u8 = 10;
+const FIRST_ROW_COPIED: u8 = 11;
+const CUT_TAKEN: u8 = 12;
+const EIGHT_FOR_SEVEN: u8 = 13;
+const FOLLOWING_REFUSED: u8 = 14;
+
+/// The right answer and destination.
+fn right(slices: &Slices, width: usize, height: usize) -> i64 {
+    // SAFETY: the slices of this call.
+    unsafe { RIGHT_UNPACK(slices.src, slices.src_len, slices.dst, slices.dst_len, width, height) }
+}
+
+/// The samples that all whole segments in the source fill.
+fn filled(slices: &Slices) -> usize {
+    let source = slices.source();
+    let fits = |&at: &usize| at + 1 + counts(source[at]).0 <= source.len();
+    let whole = segment_starts(source).into_iter().filter(fits);
+    whole.map(|at| counts(source[at])).map(|(raw, run)| raw + run).sum()
+}
+
+fn undelta(code: u8) -> u8 {
+    if code & 1 == 0 {
+        code / 2
+    } else {
+        255 - code / 2
+    }
+}
+
+/// An unpacker that is right but for one mistake.
+unsafe extern "C" fn unpacker<const MISTAKE: u8>(
+    src: *const u8,
+    src_len: usize,
+    dst: *mut u8,
+    dst_len: usize,
+    width: usize,
+    height: usize,
+) -> i64 {
+    let mut slices = Slices { src, src_len, dst, dst_len };
+    let before = slices.destination().to_vec();
+    if MISTAKE == ALWAYS_7 {
+        return -7;
+    }
+    let answer = right(&slices, width, height);
+    if answer < 0 {
+        spoil_cut::<MISTAKE>(&mut slices, &before, width, answer)
+    } else {
+        spoil_whole::<MISTAKE>(&mut slices, width, height, answer)
+    }
+}
+
+/// What is done wrong with a cut packing.
+fn spoil_cut<const MISTAKE: u8>(slices: &mut Slices, before: &[u8], width: usize, answer: i64) -> i64 {
+    let filled = filled(slices);
+    let next = filled / width * width;
+    match MISTAKE {
+        SEVEN_IF_CUT => slices.destination().copy_from_slice(before),
+        NEXT_ROW_UNTOUCHED => slices.destination()[next..].copy_from_slice(&before[next..]),
+        NEXT_ROW_CLEARED => slices.destination()[filled..next + width].fill(0),
+        NEXT_ROW_AS_SAMPLES if next > 0 => (next..filled)
+            .for_each(|at| slices.write(at, slices.sample(at - width).wrapping_add(undelta(slices.sample(at))))),
+        LAST_ROW_CODED if next > width && filled == next => {
+            let row: Vec<u8> =
+                (next - width..next).map(|at| slices.sample(at).wrapping_sub(slices.sample(at - width))).collect();
+            slices.destination()[next - width..next].copy_from_slice(&row);
+        }
+        HALF_A_SEGMENT => put_half(slices, filled, next + width),
+        CUT_TAKEN => return slices.src_len as i64,
+        EIGHT_FOR_SEVEN => return -8,
+        _ => {}
+    }
+    answer
+}
+
+/// The raw bytes that are there of the segment that is not whole.
+fn put_half(slices: &mut Slices, from: usize, to: usize) {
+    let source = slices.source().to_vec();
+    let last = segment_starts(&source).pop().filter(|&at| at + 1 + counts(source[at]).0 > source.len());
+    if let Some(at) = last {
+        (from..to).zip(&source[at + 1..]).for_each(|(to, &byte)| slices.write(to, byte));
+    }
+}
+
+/// What is done wrong with a whole one.
+fn spoil_whole<const MISTAKE: u8>(slices: &mut Slices, width: usize, height: usize, answer: i64) -> i64 {
+    match MISTAKE {
+        INVENTED_COUNT => return (width * height) as i64,
+        COUNT_IS_ALL => return slices.src_len as i64,
+        FOLLOWING_REFUSED if answer < slices.src_len as i64 => return -7,
+        REST_CLEARED => slices.destination()[width * height..].fill(0),
+        FIRST_ROW_COPIED => {
+            let first = slices.destination()[..width].to_vec();
+            slices.destination()[..width * height].chunks_mut(width).for_each(|row| row.copy_from_slice(&first));
+        }
+        _ => {}
+    }
+    answer
+}
+
+/// A packer and an unpacker that are wrong in the same way: they take every sample's complement for the sample. What is
+/// packed comes back as it was.
+unsafe extern "C" fn pack_complements(
+    src: *const u8,
+    src_len: usize,
+    dst: *mut u8,
+    dst_len: usize,
+    width: usize,
+    height: usize,
+) -> i64 {
+    let slices = Slices { src, src_len, dst, dst_len };
+    let samples: Vec<u8> = slices.source().iter().map(|sample| !sample).collect();
+    RIGHT_PACK(samples.as_ptr(), src_len, dst, dst_len, width, height)
+}
+
+unsafe extern "C" fn unpack_complements(
+    src: *const u8,
+    src_len: usize,
+    dst: *mut u8,
+    dst_len: usize,
+    width: usize,
+    height: usize,
+) -> i64 {
+    let mut slices = Slices { src, src_len, dst, dst_len };
+    let answer = right(&slices, width, height);
+    let filled = filled(&slices).min(dst_len);
+    slices.destination()[..filled].iter_mut().for_each(|sample| *sample = !*sample);
+    answer
+}
+
+/// A packer that writes every coded value as a segment of its own. Every unpacker gives back what it packs, and all that a
+/// cut holds.
+unsafe extern "C" fn pack_singly(
+    src: *const u8,
+    src_len: usize,
+    dst: *mut u8,
+    dst_len: usize,
+    width: usize,
+    height: usize,
+) -> i64 {
+    let mut slices = Slices { src, src_len, dst, dst_len };
+    for at in 0..width * height {
+        let sample = slices.read(at);
+        let column = [slices.read(at.saturating_sub(width)), sample];
+        let coded = if at < width { sample } else { Model::of(&column, 1, 2).packing[3] };
+        match slices.destination().get_mut(2 * at..2 * at + 2) {
+            Some(segment) => segment.copy_from_slice(&[0x10, coded]),
+            None => return -12,
+        }
+    }
+    2 * (width * height) as i64
+}
+
+/// The smallest difference that demand 3 finds, with some rounds of random planes.
+fn difference_in(library: Library) -> Option<Box<Difference>> {
+    let mut comparer = Comparer::new(library);
+    let mut outcome = fixed::run(&mut comparer);
+    let mut random = Random::new(1);
+    for _ in 0..500 {
+        outcome = outcome.and_then(|()| random.round(&mut comparer));
+    }
+    outcome.err().map(|difference| shrink(&mut comparer, difference))
+}
+
+/// Finds a mistake by random planes alone.
+fn random_difference_in(library: Library) -> Option<Box<Difference>> {
+    let mut comparer = Comparer::new(library);
+    let mut random = Random::new(2);
+    (0..5_000).find_map(|_| random.round(&mut comparer).err())
+}
+
+/// The mistake is found, both ways, in the library and not in the Rust, and its smallest input is as small as this one.
+fn pair_is_found(library: Library, smallest: &str) {
+    let difference = difference_in(library).expect("a mistake is found");
+    assert_eq!(difference.case.to_string(), smallest, "{difference}");
+    assert_eq!(difference.whose, "the library");
+    assert!(random_difference_in(library).is_some(), "random planes find nothing");
+}
+
+fn is_found(unpack: Function, smallest: &str) {
+    pair_is_found(Library { unpack, pack: RIGHT_PACK }, smallest);
+}
+
+#[test]
+fn a_right_pair_has_no_difference() {
+    let difference = difference_in(Library { unpack: RIGHT_UNPACK, pack: RIGHT_PACK });
+    assert!(difference.is_none(), "{}", difference.unwrap());
+}
+
+#[test]
+fn complements_packed_and_unpacked() {
+    pair_is_found(Library { unpack: unpack_complements, pack: pack_complements }, "d3 1 1 00 0 - EE");
+}
+
+#[test]
+fn every_value_a_segment_of_its_own() {
+    pair_is_found(Library { unpack: RIGHT_UNPACK, pack: pack_singly }, "d3 2 1 0000 0 - EEEE");
+}
+
+#[test]
+fn an_unpacker_that_says_7_at_once() {
+    is_found(unpacker::<ALWAYS_7>, "d3 1 1 00 2 - EE");
+}
+
+#[test]
+fn nothing_unpacked_if_bytes_are_missing() {
+    is_found(unpacker::<SEVEN_IF_CUT>, "d3 1 2 0000 2 - EEEE");
+}
+
+#[test]
+fn an_invented_read_count() {
+    is_found(unpacker::<INVENTED_COUNT>, "d3 1 1 00 2 - EE");
+}
+
+#[test]
+fn following_bytes_counted() {
+    is_found(unpacker::<COUNT_IS_ALL>, "d3 1 1 00 2 00 EE");
+}
+
+#[test]
+fn the_next_row_as_samples() {
+    is_found(unpacker::<NEXT_ROW_AS_SAMPLES>, "d3 5 2 00000100010000010000 8 - EE*10");
+}
+
+#[test]
+fn the_next_row_untouched() {
+    is_found(unpacker::<NEXT_ROW_UNTOUCHED>, "d3 5 1 00*4,01 2 - EE*5");
+}
+
+#[test]
+fn the_rest_of_the_next_row_cleared() {
+    is_found(unpacker::<NEXT_ROW_CLEARED>, "d3 1 1 00 0 - EE");
+}
+
+#[test]
+fn part_of_a_segment_unpacked() {
+    is_found(unpacker::<HALF_A_SEGMENT>, "d3 2 1 0000 2 - EEEE");
+}
+
+#[test]
+fn a_finished_row_left_coded() {
+    is_found(unpacker::<LAST_ROW_CODED>, "d3 1 3 010000 4 - EEEEEE");
+}
+
+#[test]
+fn bytes_beyond_the_plane_cleared() {
+    is_found(unpacker::<REST_CLEARED>, "d3 1 1 00 2 - EEEE");
+}
+
+#[test]
+fn the_first_row_copied_down() {
+    is_found(unpacker::<FIRST_ROW_COPIED>, "d3 1 2 0001 4 - EEEE");
+}
+
+#[test]
+fn a_cut_packing_taken_for_whole() {
+    is_found(unpacker::<CUT_TAKEN>, "d3 1 1 00 0 - EE");
+}
+
+#[test]
+fn refusal_8_for_7() {
+    is_found(unpacker::<EIGHT_FOR_SEVEN>, "d3 1 1 00 0 - EE");
+}
+
+#[test]
+fn following_bytes_refused() {
+    is_found(unpacker::<FOLLOWING_REFUSED>, "d3 1 1 00 2 00 EE");
+}
