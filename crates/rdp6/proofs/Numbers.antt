@@ -7,8 +7,10 @@ use mir.Facts.{toZ-pos}
 use mir.Val.{SFits, toZ}
 use mir.Syntax.{w64}
 use Rattle.rle_format.specs.declared.Unpacked.{Unpacked}
-use Rattle.rle_format.specs.declared.Unpacked.the-variants.{Read, Refused}
-use Rattle.rle_format.specs.Answer.{number, told}
+use Rattle.rle_format.specs.declared.Unpacked.the-variants as unpacked
+use Rattle.rle_format.specs.declared.Packed.{Packed}
+use Rattle.rle_format.specs.declared.Packed.the-variants as packed
+use Rattle.rle_format.specs.Answer.{number, told, toldPacked}
 use Rattle.rle_format.proofs.Answer.{numbers-few}
 use Rattle.rdp6.specs.Number.{cNumber}
 
@@ -25,6 +27,10 @@ minus-is n r e h =
     let z : toZ w64 n ≡ pos n = toZ-pos w64 (omega arith) in
     ap (λ (k : ℤ). pos 0 -ℤ k) z ∙ +ℤ-idl (negℤ (pos n)) ∙ ap (λ (k : ℕ). negℤ (pos k)) e
 
-pub answer-fits : (a : Unpacked) → ((n : ℕ) → a ≡ Read n → n ≤ 134217728) → SFits w64 (cNumber (told a))
-answer-fits (Read n) h = count-fits n (h n refl)
-answer-fits (Refused r) h = refusal-fits (number r) (numbers-few r)
+pub unpacked-fits : (a : Unpacked) → ((n : ℕ) → a ≡ unpacked.Read n → n ≤ 134217728) → SFits w64 (cNumber (told a))
+unpacked-fits (unpacked.Read n) h = count-fits n (h n refl)
+unpacked-fits (unpacked.Refused r) h = refusal-fits (number r) (numbers-few r)
+
+pub packed-fits : (a : Packed) → ((n : ℕ) → a ≡ packed.Written n → n ≤ 134217728) → SFits w64 (cNumber (toldPacked a))
+packed-fits (packed.Written n) h = count-fits n (h n refl)
+packed-fits (packed.Refused r) h = refusal-fits (number r) (numbers-few r)

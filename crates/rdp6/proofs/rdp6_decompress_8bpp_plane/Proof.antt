@@ -9,7 +9,7 @@ use mir.Syntax.{w64}
 use Rattle.rle_format.specs.Answer.{told}
 use Rattle.rle_format.proofs.Plane.{plane-bounded}
 use Rattle.rdp6.specs.Number.{cNumber}
-use Rattle.rdp6.proofs.Numbers.{answer-fits}
+use Rattle.rdp6.proofs.Numbers.{unpacked-fits}
 use Rattle.rle_format.specs.declared.Unpacked.the-variants.{Read}
 use borrow.Author.Needs.{needs}
 use Rattle.rdp6.proofs.rdp6_decompress_8bpp_plane.Statement.{statement}
@@ -26,8 +26,8 @@ few c n e =
 decompress-8bpp-plane-requires : tie.Need-decompress-8bpp-plane-requires
 decompress-8bpp-plane-requires c κs = search needs
 
-c-number-requires : tie.Need-c-number-requires
-c-number-requires c κs = few (c .before .before)
+unpacked-number-requires : tie.Need-unpacked-number-requires
+unpacked-number-requires c κs = few (c .before .before)
 
 same-length : tie.Need-same-length
 same-length c = search needs
@@ -35,9 +35,9 @@ same-length c = search needs
 returns : tie.Need-returns
 returns c =
     let d = c .before .before .before in
-    let f : SFits w64 (c .c-number .result) = rw (c .c-number .ensures) (answer-fits (d .decompress-8bpp-plane .result) (few d)) in
-    (toZ-ofZ f ∙ c .c-number .ensures ∙ ap cNumber (d .decompress-8bpp-plane .ensures .0), d .decompress-8bpp-plane .ensures .1)
+    let f : SFits w64 (c .unpacked-number .result) = rw (c .unpacked-number .ensures) (unpacked-fits (d .decompress-8bpp-plane .result) (few d)) in
+    (toZ-ofZ f ∙ c .unpacked-number .ensures ∙ ap cNumber (d .decompress-8bpp-plane .ensures .0), d .decompress-8bpp-plane .ensures .1)
 
 pub rdp6-decompress-8bpp-plane-spec : {M : Type 1} → statement M
 rdp6-decompress-8bpp-plane-spec =
-    tie.close (tie.spec decompress-8bpp-plane-requires c-number-requires same-length returns)
+    tie.close (tie.spec decompress-8bpp-plane-requires unpacked-number-requires same-length returns)
