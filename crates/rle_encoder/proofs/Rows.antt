@@ -1,11 +1,11 @@
 -- The rows of a plane, as the packer's outer loop goes through them.
-use mathlib.Core.Path.{_≡_, refl, sym, ap, ap₂, _∙_}
+use mathlib.Core.Path.{_≡_, refl, sym, ap, _∙_}
 use mathlib.Core.Logic.{⊎-elim}
 use mathlib.Core.List.{List, [], _∷_, _++_, append-assoc, append-nil}
 use Prim.Native.Nat.{ℕ, zero, suc, _+_, _*_, _-_, _≤_, _<_}
 use native.Mathlib.Nat.{zero-add, mul-comm, mul-assoc, mul-one, mul-le-mul-right, add-mul}
 use native.Mathlib.Omega.{arith}
-use lib.ListN.{length, take, drop, getD, length-append, length-take, length-drop, List·getD-append}
+use lib.ListN.{length, take, drop, getD, length-drop, List·getD-append}
 use lib.Seq.{take-at, take-take, getD-at, getD-take, getD-drop, ext-getD, length-take-le}
 use Rattle.rle_format.specs.declared.Packed.{Packed}
 use Rattle.rle_format.specs.Answer.{Answer, counted, refused, more, toldPacked}
@@ -18,7 +18,7 @@ use Rattle.rle_format.proofs.Slice.{take-drop}
 use Rattle.rle_encoder.specs.Samples.{spaced, rowOf, codesOf}
 use Rattle.rle_encoder.specs.Written.{answerAt, sliceAt}
 use Rattle.rle_encoder.proofs.Head.{Wrote}
-use Rattle.rle_encoder.proofs.Samples.{length-spaced, length-codedFrom, codedFrom}
+use Rattle.rle_encoder.proofs.Samples.{length-spaced, length-codedFrom}
 
 -- ---- rows from the top, and rows from row r on
 

@@ -1,14 +1,13 @@
 -- Samples that stand a stride apart, the turns of the loops that code them, and the rows of a plane of them.
-use mathlib.Core.Path.{_≡_, refl, sym, ap, ap₂, _∙_}
+use mathlib.Core.Path.{_≡_, refl, sym, ap, _∙_}
 use mathlib.Core.List.{List, [], _∷_, _++_}
 use Prim.Native.Nat.{ℕ, zero, suc, _+_, _*_, _-_, _≤_, _<_}
 use native.Mathlib.Nat.{zero-add, mul-le-mul-right}
 use native.Mathlib.Numerals.{add-one}
 use native.Mathlib.Omega.{arith}
-use lib.ListN.{length, take, drop, set, getD, length-append, List·getD-append}
+use lib.ListN.{length, drop, set, getD, length-append}
 use Rattle.rle_format.specs.Slice.{over, putAt}
 use Rattle.rle_format.specs.Delta.{deltaCode, columns}
-use Rattle.rle_format.specs.Pack.{rowAt, codesAt}
 use Rattle.rle_format.proofs.Slice.{putAt-more}
 use Rattle.rle_format.proofs.Delta.{length-columns}
 use Rattle.rle_encoder.specs.Samples.{spaced, rowOf, codesOf}

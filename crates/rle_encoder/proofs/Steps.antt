@@ -5,7 +5,7 @@ use Prim.Native.Nat.{ℕ, zero, suc, _+_, _-_, _≤_, _<_, min}
 use native.Mathlib.Omega.{arith}
 use lib.ListN.{length, getD, take, drop, replicate, length-drop, length-replicate}
 use lib.Seq.{drop-drop, take-all, getD-drop}
-use Rattle.rle_format.specs.Segment.{Segment, lastOf}
+use Rattle.rle_format.specs.Segment.{lastOf}
 use Rattle.rle_format.specs.Pack.{literal, repeat, longRun, segmentsOf}
 use Rattle.rle_format.proofs.Segment.{last-take}
 use Rattle.rle_format.proofs.SegmentSteps.{longRun-step, longRun-few, longRun-some, segments-short, segments-step, segments-last}

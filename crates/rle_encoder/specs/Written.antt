@@ -2,7 +2,7 @@
 use Prim.Native.Nat.{ℕ, _-_}
 use mathlib.Core.List.{List}
 use lib.ListN.{length}
-use Rattle.rle_format.specs.Answer.{Answer, Outcome, more}
+use Rattle.rle_format.specs.Answer.{Answer, more}
 use Rattle.rle_format.specs.Slice.{putAt}
 use Rattle.rle_format.specs.Segment.{Segment}
 use Rattle.rle_format.specs.Pack.{writeSegments}

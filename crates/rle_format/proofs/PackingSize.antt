@@ -1,10 +1,10 @@
 -- How long a packing can be: two bytes a sample at most.
-use mathlib.Core.Path.{_≡_, sym, ap, _∙_}
-use mathlib.Core.List.{List, [], _∷_, _++_}
-use Prim.Native.Nat.{ℕ, zero, suc, _+_, _*_, _≤_}
+use mathlib.Core.Path.{ap}
+use mathlib.Core.List.{List, [], _∷_}
+use Prim.Native.Nat.{ℕ, zero, suc, _*_, _≤_}
 use native.Mathlib.Nat.{mul-comm}
 use native.Mathlib.Omega.{arith}
-use lib.ListN.{length, take, drop, length-append, length-take}
+use lib.ListN.{length, length-append, length-take}
 use Rattle.rle_format.specs.Delta.{deltaCode, columns}
 use Rattle.rle_format.specs.Segment.{Segment, allBytes}
 use Rattle.rle_format.specs.Pack.{rowSegments, rowAt, codesAt, planeSegments, packing}

@@ -6,10 +6,10 @@ use mathlib.Core.List.{List, [], _++_, append-nil}
 use Prim.Native.Nat.{ℕ, _+_, _*_, _-_, _≤_, _<_, min}
 use native.Mathlib.Omega.{arith}
 use lib.ListN.{length, take, drop, getD}
-use lib.Seq.{take-append-le, take-append-add, take-all}
+use lib.Seq.{take-append-le, take-all}
 use Rattle.rle_format.specs.declared.Refusal.{Refusal}
 use Rattle.rle_format.specs.declared.Unpacked.{Unpacked}
-use Rattle.rle_format.specs.Answer.{Answer, counted, refused, Outcome, number, told}
+use Rattle.rle_format.specs.Answer.{Answer, counted, refused, number, told}
 use Rattle.rle_format.specs.Slice.{over}
 use Rattle.rle_format.specs.Pack.{packing, packPlane}
 use Rattle.rle_format.specs.Unpack.{unpackPlane}

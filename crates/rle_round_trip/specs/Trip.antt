@@ -5,7 +5,7 @@ use mathlib.Core.Path.{_≡_}
 use Prim.Native.Nat.{ℕ, _*_, _≤_, _<_, min}
 use mathlib.Core.List.{List}
 use lib.ListN.{length, take}
-use Rattle.rle_format.specs.Answer.{Answer, counted, refused, Outcome, number, told}
+use Rattle.rle_format.specs.Answer.{Answer, counted, refused, number, told}
 use Rattle.rle_format.specs.Slice.{over}
 use Rattle.rle_format.specs.Unpack.{unpackPlane}
 use Rattle.rle_round_trip.specs.declared.RoundTrip.{RoundTrip}

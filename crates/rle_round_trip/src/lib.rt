@@ -26,7 +26,8 @@ fn unpack_first(packed: &[u8], end: usize, dst: &mut [u8], width: usize, height:
     if packed.len() < end {
         return RoundTrip::TooLong;
     }
-    RoundTrip::Done(decompress_8bpp_plane(&packed[0..end], dst, width, height))
+    let answer = decompress_8bpp_plane(&packed[0..end], dst, width, height);
+    RoundTrip::Done(answer)
 }
 
 // Packs the first width × height bytes of src into packed, and unpacks the first `end` bytes of that slice into dst. Where `end` is

@@ -1,3 +1,4 @@
+-- `rdp6_compress_8bpp_plane`: what the entry ensures, its answer as a number. Assumes nothing.
 use mathlib.Core.Path.{_≡_, sym, ap, _∙_}
 use Prim.Native.Nat.{ℕ, _≤_}
 use native.Mathlib.Omega.{arith}
@@ -15,10 +16,6 @@ use Rattle.rdp6.proofs.Numbers.{packed-fits}
 use borrow.Author.Needs.{needs}
 use Rattle.rdp6.proofs.rdp6_compress_8bpp_plane.Statement.{statement}
 use Rattle.rdp6.proofs.rdp6_compress_8bpp_plane.Tie as tie
-use Rattle.rdp6.proofs.rdp6_compress_8bpp_plane.Reads as reads
-use Rattle.rdp6.proofs.rdp6_compress_8bpp_plane.Lts as lts
-use Rattle.rdp6.proofs.packed_number.Reads as packed-number-reads
-use Rattle.rle_encoder.proofs.compress_8bpp_plane.Reads as compress-8bpp-plane-reads
 
 -- a plane that was packed has few bytes
 few : (c : tie.After-compress-8bpp-plane) (n : ℕ) → c .compress-8bpp-plane .result ≡ Written n → n ≤ 134217728
@@ -27,19 +24,15 @@ few c n e =
     let w = packed-whole (a .width) (a .height) (length (a .dst .now)) (a .src .now) n (sym (c .compress-8bpp-plane .ensures .0) ∙ ap toldPacked e) in
     omega (arith, w .size, packing-most (a .width) (a .height) (a .src .now), area-most (a .width) (a .height) (w .wide .1) (w .high .1))
 
--- src/lib.rt:67:19
 compress-8bpp-plane-requires : tie.Need-compress-8bpp-plane-requires
 compress-8bpp-plane-requires c κs = search needs
 
--- src/lib.rt:67:5
 packed-number-requires : tie.Need-packed-number-requires
 packed-number-requires c κs = few (c .before .before)
 
--- src/lib.rt:57:1
 same-length : tie.Need-same-length
 same-length c = search needs
 
--- src/lib.rt:57:1
 returns : tie.Need-returns
 returns c =
     let d = c .before .before .before in

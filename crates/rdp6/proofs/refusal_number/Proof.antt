@@ -1,3 +1,4 @@
+-- `refusal_number`: minus a refusal's number, which fits 64 bits. Assumes nothing.
 use mathlib.Core.Path.{sym, ap, _∙_, subst}
 use lib.IntN.{ℤ}
 use mir.Facts.{toZ-ofZ}
@@ -9,26 +10,19 @@ use Rattle.rdp6.proofs.Numbers.{minus-is, refusal-fits}
 use borrow.Author.Needs.{needs}
 use Rattle.rdp6.proofs.refusal_number.Statement.{statement}
 use Rattle.rdp6.proofs.refusal_number.Tie as tie
-use Rattle.rdp6.proofs.refusal_number.Reads as reads
-use Rattle.rdp6.proofs.refusal_number.Lts as lts
-use Rattle.rle_format.proofs.number_of.Reads as number-of-reads
 
--- src/lib.rt:19:7
 number-of-requires : tie.Need-number-of-requires
 number-of-requires c κs = search needs
 
--- src/lib.rt:19:7
 cast-result : tie.Need-cast-result
 cast-result c = search needs
 
--- src/lib.rt:19:5
 sub-result : tie.Need-sub-result
 sub-result c =
     let r = c .before .args .reason in
     let m = minus-is (c .number-of .result) (number r) (c .number-of .ensures) (numbers-few r) in
     subst (λ (z : ℤ). SFits w64 z) (sym m) (refusal-fits (number r) (numbers-few r))
 
--- src/lib.rt:16:1
 returns : tie.Need-returns
 returns c =
     let r = c .before .args .reason in

@@ -1,4 +1,5 @@
-use mathlib.Core.Path.{_≡_, sym, ap, _∙_}
+-- `compress_8bpp_plane`: each refusal from the test that led to it, the rest from `encode`. Assumes nothing.
+use mathlib.Core.Path.{sym, ap, _∙_}
 use mathlib.Core.List.{List}
 use native.Mathlib.Omega.{arith}
 use lib.ListN.{length}
@@ -13,45 +14,33 @@ use Rattle.rle_encoder.proofs.Rows.{plane-by-itself}
 use borrow.Author.Needs.{needs}
 use Rattle.rle_encoder.proofs.compress_8bpp_plane.Statement.{statement}
 use Rattle.rle_encoder.proofs.compress_8bpp_plane.Tie as tie
-use Rattle.rle_encoder.proofs.compress_8bpp_plane.Reads as reads
-use Rattle.rle_encoder.proofs.compress_8bpp_plane.Lts as lts
-use Rattle.rle_encoder.proofs.encode.Reads as encode-reads
 
--- src/lib.rt:57:9
 returns : tie.Need-returns
 returns c = none-written _ _ _ (pack-no-width _ _ _ _ (c .if1 .taken))
 
--- src/lib.rt:60:9
 returns-2 : tie.Need-returns-2
 returns-2 c = none-written _ _ _ (pack-no-height _ _ _ _ (c .before .if1 .left) (c .if2 .taken))
 
--- src/lib.rt:63:9
 returns-3 : tie.Need-returns-3
 returns-3 c = none-written _ _ _ (pack-wide _ _ _ _ (c .before .before .if1 .left) (c .before .if2 .left) (c .if3 .taken))
 
--- src/lib.rt:66:9
 returns-4 : tie.Need-returns-4
 returns-4 c = none-written _ _ _ (pack-high _ _ _ _ (c .before .before .before .if1 .left) (c .before .before .if2 .left) (c .before .if3 .left) (c .if4 .taken))
 
--- src/lib.rt:68:20
 mul-if5 : tie.Need-mul-if5
 mul-if5 c =
     let a = c .before .before .before .before .before .before .args in
     omega (arith, area-most (a .width) (a .height) (c .before .if3 .left) (c .if4 .left))
 
--- src/lib.rt:69:9
 returns-5 : tie.Need-returns-5
 returns-5 c = none-written _ _ _ (pack-short _ _ _ _ (c .before .before .before .before .if1 .left) (c .before .before .before .if2 .left) (c .before .before .if3 .left) (c .before .if4 .left) (c .if5 .taken))
 
--- src/lib.rt:71:5
 encode-requires : tie.Need-encode-requires
 encode-requires c κs = search needs
 
--- src/lib.rt:52:1
 same-length : tie.Need-same-length
 same-length c = search needs
 
--- src/lib.rt:52:1
 returns-6 : tie.Need-returns-6
 returns-6 c =
     let r = c .before .before .encode in

@@ -1,7 +1,7 @@
+-- `encode`: the loop keeps that writing the rows from r on, from here on, is writing all rows. Assumes nothing.
 use Rattle.rle_format.specs.declared.Packed.the-variants.{Written}
-use mathlib.Core.Path.{_≡_, refl, sym, ap, _∙_}
-use mathlib.Core.List.{List}
-use Prim.Native.Nat.{ℕ, _+_, _-_, _*_, _≤_}
+use mathlib.Core.Path.{_≡_, refl, _∙_}
+use Prim.Native.Nat.{_+_, _-_, _*_, _≤_}
 use native.Mathlib.Omega.{arith}
 use borrow.Author.Needs.{needs}
 use lib.ListN.{length}
@@ -12,10 +12,6 @@ use Rattle.rle_encoder.proofs.Samples.{place-within}
 use Rattle.rle_encoder.proofs.Rows.{rowsFrom, rows-all, rows-more, rows-none, row-wrote, wrote-from-0}
 use Rattle.rle_encoder.proofs.encode.Statement.{statement}
 use Rattle.rle_encoder.proofs.encode.Tie as tie
-use Rattle.rle_encoder.proofs.encode.Reads as reads
-use Rattle.rle_encoder.proofs.encode.Lts as lts
-use Rattle.rle_encoder.proofs.delta.code_scanline.Reads as code-scanline-reads
-use Rattle.rle_encoder.proofs.row.encode_scanline.Reads as encode-scanline-reads
 
 abbrev Inv-loop : tie.InvT-loop
 Inv-loop samples start stride dst₀ width height codes₀ to₀ r₀ dst codes to r =
@@ -26,52 +22,41 @@ Inv-loop samples start stride dst₀ width height codes₀ to₀ r₀ dst codes 
 abbrev μ-loop : tie.MeasureT-loop
 μ-loop samples start stride dst₀ width height codes₀ to₀ r₀ dst codes to r = height - r
 
--- src/lib.rt:38:5
 loop-holds : tie.Need-loop-holds Inv-loop μ-loop
 loop-holds c =
     let a = c .before .before .args in
     let samples = spaced (a .start) (a .stride) (a .width * a .height) (a .samples .now) in
     (omega arith, refl, head-rest (head-first (planeSegments (a .width) (a .height) samples) (a .dst .now) 0 (omega arith)) (rowsFrom (a .width) samples 0 (a .height - 0)) (rows-all (a .width) samples (a .height)))
 
--- src/lib.rt:39:57
 slice-aggregate-code-scanline : tie.Need-slice-aggregate-code-scanline Inv-loop μ-loop
 slice-aggregate-code-scanline c = search needs
 
--- src/lib.rt:39:9
 code-scanline-requires : tie.Need-code-scanline-requires Inv-loop μ-loop
 code-scanline-requires c κs =
     let a = c .before .before .before .before .before .args in
     (omega arith, omega arith, omega (arith, place-within (c .before .before .loop .r) (a .height) (a .width * a .stride) (omega arith)), omega arith)
 
--- src/lib.rt:40:38
 sub-encode-scanline : tie.Need-sub-encode-scanline Inv-loop μ-loop
 sub-encode-scanline c = search needs
 
--- src/lib.rt:40:38
 part-encode-scanline-start : tie.Need-part-encode-scanline-start Inv-loop μ-loop
 part-encode-scanline-start c = search needs
 
--- src/lib.rt:40:38
 part-encode-scanline-end : tie.Need-part-encode-scanline-end Inv-loop μ-loop
 part-encode-scanline-end c = search needs
 
--- src/lib.rt:40:13
 encode-scanline-requires : tie.Need-encode-scanline-requires Inv-loop μ-loop
 encode-scanline-requires c κs = search needs
 
--- src/lib.rt:41:29
 enum-known-answer : tie.Need-enum-known-answer Inv-loop μ-loop
 enum-known-answer c = search needs
 
--- src/lib.rt:42:13
 enum-told : tie.Need-enum-told Inv-loop μ-loop
 enum-told c = search needs
 
--- src/lib.rt:42:13
 same-length : tie.Need-same-length Inv-loop μ-loop
 same-length c = search needs
 
--- src/lib.rt:42:13
 returns : tie.Need-returns Inv-loop μ-loop
 returns c =
     let l = c .before .before .before .before .before .before .before .before .before .before .before .before .loop in
@@ -85,15 +70,12 @@ returns c =
     (head-stop (l .inv .2) (rowSegments (codesAt (a .width) samples (l .r))) (rowsFrom (a .width) samples (l .r + 1) (a .height - (l .r + 1))) (put .last .1 .0) (put .result) (c .enum-told .given .0 .0)
     (rows-more (a .width) samples (l .r) (a .height) (omega arith)) row (c .enum-told .given .1))
 
--- src/lib.rt:45:9
 add-r : tie.Need-add-r Inv-loop μ-loop
 add-r c = search needs
 
--- src/lib.rt:38:5
 loop-less : tie.Need-loop-less Inv-loop μ-loop
 loop-less c = search needs
 
--- src/lib.rt:38:5
 loop-again : tie.Need-loop-again Inv-loop μ-loop
 loop-again c =
     let l = c .before .before .before .before .before .before .before .before .before .before .before .before .before .loop in
@@ -109,11 +91,9 @@ loop-again c =
           (rows-more (a .width) samples (l .r) (a .height) (omega arith)) row (c .before .answer .given .1),
     )
 
--- src/lib.rt:23:1
 same-length-2 : tie.Need-same-length-2 Inv-loop μ-loop
 same-length-2 c = search needs
 
--- src/lib.rt:23:1
 returns-2 : tie.Need-returns-2 Inv-loop μ-loop
 returns-2 c =
     let l = c .before .loop in

@@ -1,50 +1,38 @@
-use mathlib.Core.Path.{_≡_, refl, sym, ap, _∙_}
+-- `round_trip`: demand 3 of what was packed and unpacked. Assumes nothing.
+use mathlib.Core.Path.{refl, sym, ap, _∙_}
 use native.Mathlib.Omega.{arith}
 use Rattle.rle_format.specs.Answer.{toldPacked}
 use Rattle.rle_round_trip.proofs.Trip.{trips}
 use borrow.Author.Needs.{needs}
 use Rattle.rle_round_trip.proofs.round_trip.Statement.{statement}
 use Rattle.rle_round_trip.proofs.round_trip.Tie as tie
-use Rattle.rle_round_trip.proofs.round_trip.Reads as reads
-use Rattle.rle_round_trip.proofs.round_trip.Lts as lts
-use Rattle.rle_encoder.proofs.compress_8bpp_plane.Reads as compress-8bpp-plane-reads
-use Rattle.rle_round_trip.proofs.unpack_first.Reads as unpack-first-reads
 
--- src/lib.rt:45:11
 compress-8bpp-plane-requires : tie.Need-compress-8bpp-plane-requires
 compress-8bpp-plane-requires c κs = search needs
 
--- src/lib.rt:46:25
 enum-known-reason : tie.Need-enum-known-reason
 enum-known-reason c = search needs
 
--- src/lib.rt:47:44
 enum-told : tie.Need-enum-told
 enum-told c = search needs
 
--- src/lib.rt:47:31
 unpack-first-requires : tie.Need-unpack-first-requires
 unpack-first-requires c κs = search needs
 
--- src/lib.rt:34:1
 same-length : tie.Need-same-length
 same-length c = search needs
 
--- src/lib.rt:34:1
 returns : tie.Need-returns
 returns c =
     let pack = c .before .before .before .before .before .compress-8bpp-plane in
     (pack .ensures .1, (sym (pack .ensures .0) ∙ ap toldPacked (c .before .reason .given .1), refl))
 
--- src/lib.rt:34:1
 same-length-2 : tie.Need-same-length-2
 same-length-2 c = search needs
 
--- src/lib.rt:34:1
 same-length-3 : tie.Need-same-length-3
 same-length-3 c = search needs
 
--- src/lib.rt:34:1
 returns-2 : tie.Need-returns-2
 returns-2 c =
     let pack = c .before .before .before .before .before .before .before .before .before .compress-8bpp-plane in

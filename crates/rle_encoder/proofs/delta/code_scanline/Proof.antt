@@ -1,55 +1,42 @@
+-- `code_scanline`: the first row by value, a later one by the row above. Assumes nothing.
 use Prim.Native.Nat.{_*_}
-use mathlib.Core.Path.{_≡_, refl, sym, ap, _∙_}
+use mathlib.Core.Path.{ap, _∙_}
 use native.Mathlib.Omega.{arith}
 use Rattle.rle_format.specs.Slice.{over}
 use Rattle.rle_encoder.proofs.Samples.{place-within, first-codes, later-codes}
 use borrow.Author.Needs.{needs}
 use Rattle.rle_encoder.proofs.delta.code_scanline.Statement.{statement}
 use Rattle.rle_encoder.proofs.delta.code_scanline.Tie as tie
-use Rattle.rle_encoder.proofs.delta.code_scanline.Reads as reads
-use Rattle.rle_encoder.proofs.delta.code_scanline.Lts as lts
-use Rattle.rle_encoder.proofs.delta.copy_row.Reads as copy-row-reads
-use Rattle.rle_encoder.proofs.delta.delta_row.Reads as delta-row-reads
 
--- src/delta.rt:61:15
 mul-row : tie.Need-mul-row
 mul-row c = search needs
 
--- src/delta.rt:62:24
 mul-from : tie.Need-mul-from
 mul-from c = search needs
 
--- src/delta.rt:62:16
 add-from : tie.Need-add-from
 add-from c = let a = c .before .before .args in omega (arith, place-within 0 (a .width) (a .stride) (omega arith))
 
--- src/delta.rt:64:9
 copy-row-requires : tie.Need-copy-row-requires
 copy-row-requires c κs = let a = c .before .before .before .before .args in (omega (arith, place-within 0 (a .width) (a .stride) (omega arith)), omega arith)
 
--- src/delta.rt:66:28
 sub-delta-row : tie.Need-sub-delta-row
 sub-delta-row c = let a = c .before .before .before .args in omega (arith, place-within 0 (a .r) (a .width * a .stride) (omega arith))
 
--- src/delta.rt:66:9
 delta-row-requires : tie.Need-delta-row-requires
 delta-row-requires c κs = (omega arith, omega arith, omega arith)
 
--- src/delta.rt:50:1
 same-length : tie.Need-same-length
 same-length c = search needs
 
--- src/delta.rt:50:1
 returns : tie.Need-returns
 returns c =
     let a = c .before .before .before .before .before .before .before .args in
     c .before .before .copy-row .ensures ∙ ap (over (a .codes .now)) (first-codes (a .start) (a .stride) (a .width) (a .samples .now) (a .r) (c .before .before .before .before .if1 .taken))
 
--- src/delta.rt:50:1
 same-length-2 : tie.Need-same-length-2
 same-length-2 c = search needs
 
--- src/delta.rt:50:1
 returns-2 : tie.Need-returns-2
 returns-2 c =
     let a = c .before .before .before .before .before .before .before .args in

@@ -1,3 +1,4 @@
+-- `copy_row`: after i turns the first i samples are copied. Assumes nothing.
 use mathlib.Core.Path.{_≡_, refl, sym, ap, _∙_}
 use Prim.Native.Nat.{ℕ, _≤_, _-_}
 use native.Mathlib.Omega.{arith}
@@ -8,8 +9,6 @@ use Rattle.rle_encoder.specs.Samples.{spaced}
 use Rattle.rle_encoder.proofs.Samples.{place-within, copied-more}
 use Rattle.rle_encoder.proofs.delta.copy_row.Statement.{statement}
 use Rattle.rle_encoder.proofs.delta.copy_row.Tie as tie
-use Rattle.rle_encoder.proofs.delta.copy_row.Reads as reads
-use Rattle.rle_encoder.proofs.delta.copy_row.Lts as lts
 
 abbrev Inv-loop : tie.InvT-loop
 Inv-loop samples from stride width codes₀ i₀ codes i = (i ≤ width) × ((length codes ≡ length codes₀) × (codes ≡ over codes₀ (spaced from stride i samples)))
@@ -17,47 +16,37 @@ Inv-loop samples from stride width codes₀ i₀ codes i = (i ≤ width) × ((le
 abbrev μ-loop : tie.MeasureT-loop
 μ-loop samples from stride width codes₀ i₀ codes i = width - i
 
--- src/delta.rt:23:5
 loop-holds : tie.Need-loop-holds Inv-loop μ-loop
 unfolding spaced
 loop-holds c = (omega arith, (refl, sym (over-none _)))
 
--- src/delta.rt:24:35
 mul-codes : tie.Need-mul-codes Inv-loop μ-loop
 mul-codes c = omega (arith, place-within (c .before .loop .i) (c .before .before .args .width) (c .before .before .args .stride) (omega arith))
 
--- src/delta.rt:24:28
 add-codes : tie.Need-add-codes Inv-loop μ-loop
 add-codes c = omega (arith, place-within (c .before .loop .i) (c .before .before .args .width) (c .before .before .args .stride) (omega arith))
 
--- src/delta.rt:24:20
 shared-slice-read-codes : tie.Need-shared-slice-read-codes Inv-loop μ-loop
 shared-slice-read-codes c = omega (arith, place-within (c .before .before .loop .i) (c .before .before .before .args .width) (c .before .before .before .args .stride) (omega arith))
 
--- src/delta.rt:24:9
 slice-write-codes : tie.Need-slice-write-codes Inv-loop μ-loop
 slice-write-codes c = omega arith
 
--- src/delta.rt:25:9
 add-i : tie.Need-add-i Inv-loop μ-loop
 add-i c = omega arith
 
--- src/delta.rt:23:5
 loop-less : tie.Need-loop-less Inv-loop μ-loop
 loop-less c = omega arith
 
--- src/delta.rt:23:5
 loop-again : tie.Need-loop-again Inv-loop μ-loop
 loop-again c =
     let l = c .before .before .loop in
     let a = c .before .before .before .args in
     (omega arith, (simp length-set (omega arith), copied-more (a .codes .now) (l .codes) (a .samples .now) (a .from) (a .stride) (l .i) (l .inv .1 .1) (omega arith)))
 
--- src/delta.rt:18:1
 same-length : tie.Need-same-length Inv-loop μ-loop
 same-length c = omega arith
 
--- src/delta.rt:18:1
 returns : tie.Need-returns Inv-loop μ-loop
 returns c =
     let a = c .before .before .args in

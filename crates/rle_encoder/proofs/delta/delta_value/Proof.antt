@@ -1,40 +1,31 @@
+-- `delta_value`: the code of the difference that the wrapping subtraction gives. Assumes nothing.
 use native.Mathlib.Omega.{arith}
 use Rattle.rle_format.proofs.Delta.{code-under, code-over}
 use borrow.Author.Needs.{needs}
 use Rattle.rle_encoder.proofs.delta.delta_value.Statement.{statement}
 use Rattle.rle_encoder.proofs.delta.delta_value.Tie as tie
-use Rattle.rle_encoder.proofs.delta.delta_value.Reads as reads
-use Rattle.rle_encoder.proofs.delta.delta_value.Lts as lts
-use Rattle.std.proofs.num.wrapping_sub_u8.Reads as wrapping-sub-u8-reads
 
--- src/delta.rt:13:9
 wrapping-sub-u8-requires : tie.Need-wrapping-sub-u8-requires
 wrapping-sub-u8-requires c κs = search needs
 
--- src/delta.rt:14:18
 mul-result : tie.Need-mul-result
 mul-result c = search needs
 
--- src/delta.rt:14:38
 sub-result : tie.Need-sub-result
 sub-result c = search needs
 
--- src/delta.rt:14:33
 mul-result-2 : tie.Need-mul-result-2
 mul-result-2 c = search needs
 
--- src/delta.rt:14:33
 add-result : tie.Need-add-result
 add-result c = search needs
 
--- src/delta.rt:10:1
 returns : tie.Need-returns
 returns c =
     let a = c .before .before .args in
     let d = c .before .wrapping-sub-u8 in
     code-under (a .prev) (a .next) (d .result) (omega arith) (omega arith) (d .ensures) (c .if1 .taken)
 
--- src/delta.rt:10:1
 returns-2 : tie.Need-returns-2
 returns-2 c =
     let a = c .before .before .args in

@@ -1,6 +1,5 @@
-use mathlib.Core.Path.{_≡_, refl, sym, ap, _∙_}
-use mathlib.Core.List.{List}
-use Prim.Native.Nat.{ℕ, _+_, _-_}
+-- `encode_scanline`: the loop keeps that writing the segments of the rest of the scan, from here on, is writing the row's. Assumes nothing.
+use Prim.Native.Nat.{_+_, _-_}
 use native.Mathlib.Omega.{arith}
 use borrow.Author.Needs.{needs}
 use lib.ListN.{length, take, drop}
@@ -9,9 +8,6 @@ use Rattle.rle_encoder.proofs.Head.{WriteHead, head-first, head-rest, h
 use Rattle.rle_encoder.proofs.Scan.{Scanned, scan, scan-begins, scan-same, scan-joins, scan-ends, scan-closes-run, scan-closes-raw, scanned-begins, scanned-new, scanned-same}
 use Rattle.rle_encoder.proofs.row.encode_scanline.Statement.{statement}
 use Rattle.rle_encoder.proofs.row.encode_scanline.Tie as tie
-use Rattle.rle_encoder.proofs.row.encode_scanline.Reads as reads
-use Rattle.rle_encoder.proofs.row.encode_scanline.Lts as lts
-use Rattle.rle_encoder.proofs.segment.encode_segment.Reads as encode-segment-reads
 
 abbrev Inv-loop : tie.InvT-loop
 Inv-loop codes dst₀ at start₀ last₀ to₀ i₀ dst start last to i = Scanned codes start last i × WriteHead (rowSegments codes) (scan codes start last i) dst₀ dst at to
@@ -19,7 +15,6 @@ Inv-loop codes dst₀ at start₀ last₀ to₀ i₀ dst start last to i = Scann
 abbrev μ-loop : tie.MeasureT-loop
 μ-loop codes dst₀ at start₀ last₀ to₀ i₀ dst start last to i = length codes - i
 
--- src/row.rt:22:5
 loop-holds : tie.Need-loop-holds Inv-loop μ-loop
 loop-holds c =
     let a = c .before .before .args in (
@@ -27,23 +22,18 @@ loop-holds c =
       head-rest (head-first (rowSegments (a .codes .now)) (a .dst .now) (a .at) (omega arith)) (scan (a .codes .now) 0 0 1) (scan-begins (a .codes .now) (omega arith)),
     )
 
--- src/row.rt:23:12
 shared-slice-read-if1 : tie.Need-shared-slice-read-if1 Inv-loop μ-loop
 shared-slice-read-if1 c = search needs
 
--- src/row.rt:23:24
 shared-slice-read-if1-2 : tie.Need-shared-slice-read-if1-2 Inv-loop μ-loop
 shared-slice-read-if1-2 c = search needs
 
--- src/row.rt:24:13
 add-i : tie.Need-add-i Inv-loop μ-loop
 add-i c = search needs
 
--- src/row.rt:22:5
 loop-less : tie.Need-loop-less Inv-loop μ-loop
 loop-less c = search needs
 
--- src/row.rt:22:5
 loop-again : tie.Need-loop-again Inv-loop μ-loop
 loop-again c =
     let l = c .before .before .before .before .loop in
@@ -52,23 +42,18 @@ loop-again c =
       head-rest (l .inv .1) (scan codes (l .start) (l .last) (l .i + 1)) (scan-same codes (l .start) (l .last) (l .i) (l .inv .0) (omega arith) (c .if1 .taken)),
     )
 
--- src/row.rt:27:12
 sub-if2 : tie.Need-sub-if2 Inv-loop μ-loop
 sub-if2 c = search needs
 
--- src/row.rt:27:12
 sub-if2-2 : tie.Need-sub-if2-2 Inv-loop μ-loop
 sub-if2-2 c = search needs
 
--- src/row.rt:29:13
 add-i-2 : tie.Need-add-i-2 Inv-loop μ-loop
 add-i-2 c = search needs
 
--- src/row.rt:22:5
 loop-less-2 : tie.Need-loop-less-2 Inv-loop μ-loop
 loop-less-2 c = search needs
 
--- src/row.rt:22:5
 loop-again-2 : tie.Need-loop-again-2 Inv-loop μ-loop
 loop-again-2 c =
     let l = c .before .before .before .before .before .loop in
@@ -78,47 +63,36 @@ loop-again-2 c =
           (scan-joins codes (l .start) (l .last) (l .i) (l .inv .0) (omega arith) (c .before .if1 .left) (omega arith)),
     )
 
--- src/row.rt:32:51
 add-encode-segment : tie.Need-add-encode-segment Inv-loop μ-loop
 add-encode-segment c = search needs
 
--- src/row.rt:32:37
 sub-encode-segment : tie.Need-sub-encode-segment Inv-loop μ-loop
 sub-encode-segment c = search needs
 
--- src/row.rt:32:37
 part-encode-segment-start : tie.Need-part-encode-segment-start Inv-loop μ-loop
 part-encode-segment-start c = search needs
 
--- src/row.rt:32:37
 part-encode-segment-end : tie.Need-part-encode-segment-end Inv-loop μ-loop
 part-encode-segment-end c = search needs
 
--- src/row.rt:32:62
 sub-encode-segment-2 : tie.Need-sub-encode-segment-2 Inv-loop μ-loop
 sub-encode-segment-2 c = search needs
 
--- src/row.rt:32:62
 sub-encode-segment-3 : tie.Need-sub-encode-segment-3 Inv-loop μ-loop
 sub-encode-segment-3 c = search needs
 
--- src/row.rt:32:13
 encode-segment-requires : tie.Need-encode-segment-requires Inv-loop μ-loop
 encode-segment-requires c κs = search needs
 
--- src/row.rt:33:29
 enum-known-answer : tie.Need-enum-known-answer Inv-loop μ-loop
 enum-known-answer c = search needs
 
--- src/row.rt:34:13
 enum-told : tie.Need-enum-told Inv-loop μ-loop
 enum-told c = search needs
 
--- src/row.rt:34:13
 same-length : tie.Need-same-length Inv-loop μ-loop
 same-length c = search needs
 
--- src/row.rt:34:13
 returns : tie.Need-returns Inv-loop μ-loop
 returns c =
     let l = c .before .before .before .before .before .before .before .before .before .before .before .before .loop in
@@ -128,15 +102,12 @@ returns c =
     (call .last .1 .1 .0) (call .result) (c .enum-told .given .0 .0)
     (scan-ends codes (l .start) (l .last) (l .i) (l .inv .0) (omega arith) (c .before .before .before .before .before .before .before .before .if1 .left) (omega arith)) (call .ensures) (c .enum-told .given .1)
 
--- src/row.rt:39:9
 add-i-3 : tie.Need-add-i-3 Inv-loop μ-loop
 add-i-3 c = search needs
 
--- src/row.rt:22:5
 loop-less-3 : tie.Need-loop-less-3 Inv-loop μ-loop
 loop-less-3 c = search needs
 
--- src/row.rt:22:5
 loop-again-3 : tie.Need-loop-again-3 Inv-loop μ-loop
 loop-again-3 c =
     let l = c .before .before .before .before .before .before .before .before .before .before .before .before .before .loop in
@@ -148,63 +119,48 @@ loop-again-3 c =
           (scan-ends codes (l .start) (l .last) (l .i) (l .inv .0) (omega arith) (c .before .before .before .before .before .before .before .before .before .if1 .left) (omega arith)) (call .ensures) (c .before .answer .given .1),
     )
 
--- src/row.rt:41:8
 sub-if3 : tie.Need-sub-if3 Inv-loop μ-loop
 sub-if3 c = search needs
 
--- src/row.rt:41:8
 sub-if3-2 : tie.Need-sub-if3-2 Inv-loop μ-loop
 sub-if3-2 c = search needs
 
--- src/row.rt:42:24
 sub-encode-segment-4 : tie.Need-sub-encode-segment-4 Inv-loop μ-loop
 sub-encode-segment-4 c = search needs
 
--- src/row.rt:42:24
 part-encode-segment-start-2 : tie.Need-part-encode-segment-start-2 Inv-loop μ-loop
 part-encode-segment-start-2 c = search needs
 
--- src/row.rt:42:24
 part-encode-segment-end-2 : tie.Need-part-encode-segment-end-2 Inv-loop μ-loop
 part-encode-segment-end-2 c = search needs
 
--- src/row.rt:42:9
 encode-segment-requires-2 : tie.Need-encode-segment-requires-2 Inv-loop μ-loop
 encode-segment-requires-2 c κs = search needs
 
--- src/row.rt:44:38
 add-encode-segment-2 : tie.Need-add-encode-segment-2 Inv-loop μ-loop
 add-encode-segment-2 c = search needs
 
--- src/row.rt:44:24
 sub-encode-segment-5 : tie.Need-sub-encode-segment-5 Inv-loop μ-loop
 sub-encode-segment-5 c = search needs
 
--- src/row.rt:44:24
 part-encode-segment-start-3 : tie.Need-part-encode-segment-start-3 Inv-loop μ-loop
 part-encode-segment-start-3 c = search needs
 
--- src/row.rt:44:24
 part-encode-segment-end-3 : tie.Need-part-encode-segment-end-3 Inv-loop μ-loop
 part-encode-segment-end-3 c = search needs
 
--- src/row.rt:44:49
 sub-encode-segment-6 : tie.Need-sub-encode-segment-6 Inv-loop μ-loop
 sub-encode-segment-6 c = search needs
 
--- src/row.rt:44:49
 sub-encode-segment-7 : tie.Need-sub-encode-segment-7 Inv-loop μ-loop
 sub-encode-segment-7 c = search needs
 
--- src/row.rt:44:9
 encode-segment-requires-3 : tie.Need-encode-segment-requires-3 Inv-loop μ-loop
 encode-segment-requires-3 c κs = search needs
 
--- src/row.rt:13:1
 same-length-2 : tie.Need-same-length-2 Inv-loop μ-loop
 same-length-2 c = search needs
 
--- src/row.rt:13:1
 returns-2 : tie.Need-returns-2 Inv-loop μ-loop
 returns-2 c =
     let l = c .before .before .before .before .before .before .before .loop in
@@ -214,11 +170,9 @@ returns-2 c =
     (scan-closes-raw codes (l .start) (l .last) (l .i) (l .inv .0) (omega arith) (omega arith)))
     (call .last .1 .1 .0) (call .result) (call .ensures)
 
--- src/row.rt:13:1
 same-length-3 : tie.Need-same-length-3 Inv-loop μ-loop
 same-length-3 c = search needs
 
--- src/row.rt:13:1
 returns-3 : tie.Need-returns-3 Inv-loop μ-loop
 returns-3 c =
     let l = c .before .before .before .before .before .before .before .loop in

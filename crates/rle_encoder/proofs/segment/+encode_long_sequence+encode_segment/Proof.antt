@@ -1,9 +1,9 @@
-use mathlib.Core.Path.{_≡_, refl, sym, ap, _∙_}
-use mathlib.Core.List.{List, [], _∷_}
+-- `encode_segment` and `encode_long_sequence`, which call each other. The measure of each is the run that it is given, which falls at every
+-- call. Each loop keeps that writing what is left, from here on, is writing all (`WriteHead`). Assumes nothing.
+use mathlib.Core.List.{[], _∷_}
 use native.Mathlib.Omega.{arith}
 use borrow.Author.Needs.{needs}
 use lib.ListN.{length, getD, take, drop}
-use Rattle.rle_format.specs.Segment.{Segment}
 use Rattle.rle_format.specs.Pack.{literal, repeat, segmentsOf, longRun}
 use Rattle.rle_format.proofs.SegmentSteps.{longRun-none}
 use Rattle.rle_encoder.proofs.Head.{WriteHead, head-first, head-rest, head-turn, head-stop, head-last, head-done}
@@ -61,117 +61,38 @@ encode-segment-below t =
     (falls 2 encode-segment-kinds.ps _<_ μ-encode-segment t)
     encode-segment.Pre
 
+-- what each may use of the functions that it calls: their contracts, of the other one for a smaller run
+abbrev long-claims : ℕ → encode-long-sequence-lts.Claims
+long-claims t = (next-part-reads.Asked, next-part-reads.Learnt, write-repeat-reads.Asked, write-repeat-reads.Learnt, encode-segment-below t, encode-segment.Post)
+
+abbrev segment-claims : ℕ → encode-segment-lts.Claims
+segment-claims t = (write-literal-reads.Asked, write-literal-reads.Learnt, encode-long-sequence-below t, encode-long-sequence.Post)
+
 abbrev encode-long-sequence-Inv-loop : encode-long-sequence-lts.InvT-loop
 encode-long-sequence-Inv-loop run last dst₀ at left₀ to₀ dst left to = (left ≤ run) × WriteHead (longRun last run) (longRun last left) dst₀ dst at to
 
 abbrev encode-long-sequence-μ-loop : encode-long-sequence-lts.MeasureT-loop
 encode-long-sequence-μ-loop run last dst₀ at left₀ to₀ dst left to = left
 
--- src/segment.rt:106:5
-encode-long-sequence-loop-holds : (t : ℕ) → encode-long-sequence-lts.Need-loop-holds (
-  next-part-reads.Asked,
-  next-part-reads.Learnt,
-  write-repeat-reads.Asked,
-  write-repeat-reads.Learnt,
-  encode-segment-below t,
-  encode-segment.Post,
-)
-    (encode-long-sequence-at t)
-    encode-long-sequence.Post
-    encode-long-sequence-Inv-loop
-    encode-long-sequence-μ-loop
+encode-long-sequence-loop-holds : (t : ℕ) → encode-long-sequence-lts.Need-loop-holds (long-claims t) (encode-long-sequence-at t) encode-long-sequence.Post encode-long-sequence-Inv-loop encode-long-sequence-μ-loop
 encode-long-sequence-loop-holds t c = let a = c .before .args in (omega arith, head-first (longRun (a .last) (a .run)) (a .dst .now) (a .at) (omega arith))
 
--- src/segment.rt:107:13
-encode-long-sequence-next-part-requires :
-    (t : ℕ) → encode-long-sequence-lts.Need-next-part-requires (
-      next-part-reads.Asked,
-      next-part-reads.Learnt,
-      write-repeat-reads.Asked,
-      write-repeat-reads.Learnt,
-      encode-segment-below t,
-      encode-segment.Post,
-    )
-    (encode-long-sequence-at t)
-    encode-long-sequence.Post
-    encode-long-sequence-Inv-loop
-    encode-long-sequence-μ-loop
+encode-long-sequence-next-part-requires : (t : ℕ) → encode-long-sequence-lts.Need-next-part-requires (long-claims t) (encode-long-sequence-at t) encode-long-sequence.Post encode-long-sequence-Inv-loop encode-long-sequence-μ-loop
 encode-long-sequence-next-part-requires t c κs = search needs
 
--- src/segment.rt:108:13
-encode-long-sequence-write-repeat-requires :
-    (t : ℕ) → encode-long-sequence-lts.Need-write-repeat-requires (
-      next-part-reads.Asked,
-      next-part-reads.Learnt,
-      write-repeat-reads.Asked,
-      write-repeat-reads.Learnt,
-      encode-segment-below t,
-      encode-segment.Post,
-    )
-    (encode-long-sequence-at t)
-    encode-long-sequence.Post
-    encode-long-sequence-Inv-loop
-    encode-long-sequence-μ-loop
+encode-long-sequence-write-repeat-requires : (t : ℕ) → encode-long-sequence-lts.Need-write-repeat-requires (long-claims t) (encode-long-sequence-at t) encode-long-sequence.Post encode-long-sequence-Inv-loop encode-long-sequence-μ-loop
 encode-long-sequence-write-repeat-requires t c κs = search needs
 
--- src/segment.rt:109:29
-encode-long-sequence-enum-known-answer : (t : ℕ) → encode-long-sequence-lts.Need-enum-known-answer (
-  next-part-reads.Asked,
-  next-part-reads.Learnt,
-  write-repeat-reads.Asked,
-  write-repeat-reads.Learnt,
-  encode-segment-below t,
-  encode-segment.Post,
-)
-    (encode-long-sequence-at t)
-    encode-long-sequence.Post
-    encode-long-sequence-Inv-loop
-    encode-long-sequence-μ-loop
+encode-long-sequence-enum-known-answer : (t : ℕ) → encode-long-sequence-lts.Need-enum-known-answer (long-claims t) (encode-long-sequence-at t) encode-long-sequence.Post encode-long-sequence-Inv-loop encode-long-sequence-μ-loop
 encode-long-sequence-enum-known-answer t c = search needs
 
--- src/segment.rt:110:13
-encode-long-sequence-enum-told : (t : ℕ) → encode-long-sequence-lts.Need-enum-told (
-  next-part-reads.Asked,
-  next-part-reads.Learnt,
-  write-repeat-reads.Asked,
-  write-repeat-reads.Learnt,
-  encode-segment-below t,
-  encode-segment.Post,
-)
-    (encode-long-sequence-at t)
-    encode-long-sequence.Post
-    encode-long-sequence-Inv-loop
-    encode-long-sequence-μ-loop
+encode-long-sequence-enum-told : (t : ℕ) → encode-long-sequence-lts.Need-enum-told (long-claims t) (encode-long-sequence-at t) encode-long-sequence.Post encode-long-sequence-Inv-loop encode-long-sequence-μ-loop
 encode-long-sequence-enum-told t c = search needs
 
--- src/segment.rt:110:13
-encode-long-sequence-same-length : (t : ℕ) → encode-long-sequence-lts.Need-same-length (
-  next-part-reads.Asked,
-  next-part-reads.Learnt,
-  write-repeat-reads.Asked,
-  write-repeat-reads.Learnt,
-  encode-segment-below t,
-  encode-segment.Post,
-)
-    (encode-long-sequence-at t)
-    encode-long-sequence.Post
-    encode-long-sequence-Inv-loop
-    encode-long-sequence-μ-loop
+encode-long-sequence-same-length : (t : ℕ) → encode-long-sequence-lts.Need-same-length (long-claims t) (encode-long-sequence-at t) encode-long-sequence.Post encode-long-sequence-Inv-loop encode-long-sequence-μ-loop
 encode-long-sequence-same-length t c = search needs
 
--- src/segment.rt:110:13
-encode-long-sequence-returns : (t : ℕ) → encode-long-sequence-lts.Need-returns (
-  next-part-reads.Asked,
-  next-part-reads.Learnt,
-  write-repeat-reads.Asked,
-  write-repeat-reads.Learnt,
-  encode-segment-below t,
-  encode-segment.Post,
-)
-    (encode-long-sequence-at t)
-    encode-long-sequence.Post
-    encode-long-sequence-Inv-loop
-    encode-long-sequence-μ-loop
+encode-long-sequence-returns : (t : ℕ) → encode-long-sequence-lts.Need-returns (long-claims t) (encode-long-sequence-at t) encode-long-sequence.Post encode-long-sequence-Inv-loop encode-long-sequence-μ-loop
 encode-long-sequence-returns t c =
     let l = c .before .before .before .before .before .before .before .before .loop in
     let a = c .before .before .before .before .before .before .before .before .before .before .args in
@@ -180,49 +101,13 @@ encode-long-sequence-returns t c =
     head-stop (l .inv .1) (repeat (part .result) ∷ []) (longRun (a .last) (l .left - part .result)) (put .last .1 .0) (put .result) (c .enum-told .given .0 .0)
     (long-turn (a .last) (l .left) (part .result) (omega arith) (part .ensures)) (put .ensures) (c .enum-told .given .1)
 
--- src/segment.rt:113:9
-encode-long-sequence-sub-left : (t : ℕ) → encode-long-sequence-lts.Need-sub-left (
-  next-part-reads.Asked,
-  next-part-reads.Learnt,
-  write-repeat-reads.Asked,
-  write-repeat-reads.Learnt,
-  encode-segment-below t,
-  encode-segment.Post,
-)
-    (encode-long-sequence-at t)
-    encode-long-sequence.Post
-    encode-long-sequence-Inv-loop
-    encode-long-sequence-μ-loop
+encode-long-sequence-sub-left : (t : ℕ) → encode-long-sequence-lts.Need-sub-left (long-claims t) (encode-long-sequence-at t) encode-long-sequence.Post encode-long-sequence-Inv-loop encode-long-sequence-μ-loop
 encode-long-sequence-sub-left t c = search needs
 
--- src/segment.rt:106:5
-encode-long-sequence-loop-less : (t : ℕ) → encode-long-sequence-lts.Need-loop-less (
-  next-part-reads.Asked,
-  next-part-reads.Learnt,
-  write-repeat-reads.Asked,
-  write-repeat-reads.Learnt,
-  encode-segment-below t,
-  encode-segment.Post,
-)
-    (encode-long-sequence-at t)
-    encode-long-sequence.Post
-    encode-long-sequence-Inv-loop
-    encode-long-sequence-μ-loop
+encode-long-sequence-loop-less : (t : ℕ) → encode-long-sequence-lts.Need-loop-less (long-claims t) (encode-long-sequence-at t) encode-long-sequence.Post encode-long-sequence-Inv-loop encode-long-sequence-μ-loop
 encode-long-sequence-loop-less t c = search needs
 
--- src/segment.rt:106:5
-encode-long-sequence-loop-again : (t : ℕ) → encode-long-sequence-lts.Need-loop-again (
-  next-part-reads.Asked,
-  next-part-reads.Learnt,
-  write-repeat-reads.Asked,
-  write-repeat-reads.Learnt,
-  encode-segment-below t,
-  encode-segment.Post,
-)
-    (encode-long-sequence-at t)
-    encode-long-sequence.Post
-    encode-long-sequence-Inv-loop
-    encode-long-sequence-μ-loop
+encode-long-sequence-loop-again : (t : ℕ) → encode-long-sequence-lts.Need-loop-again (long-claims t) (encode-long-sequence-at t) encode-long-sequence.Post encode-long-sequence-Inv-loop encode-long-sequence-μ-loop
 encode-long-sequence-loop-again t c =
     let l = c .before .before .before .before .before .before .before .before .before .loop in
     let a = c .before .before .before .before .before .before .before .before .before .before .before .args in
@@ -233,208 +118,43 @@ encode-long-sequence-loop-again t c =
           (long-turn (a .last) (l .left) (part .result) (omega arith) (part .ensures)) (put .ensures) (c .before .answer .given .1),
     )
 
--- src/segment.rt:116:9
-encode-long-sequence-same-length-2 : (t : ℕ) → encode-long-sequence-lts.Need-same-length-2 (
-  next-part-reads.Asked,
-  next-part-reads.Learnt,
-  write-repeat-reads.Asked,
-  write-repeat-reads.Learnt,
-  encode-segment-below t,
-  encode-segment.Post,
-)
-    (encode-long-sequence-at t)
-    encode-long-sequence.Post
-    encode-long-sequence-Inv-loop
-    encode-long-sequence-μ-loop
+encode-long-sequence-same-length-2 : (t : ℕ) → encode-long-sequence-lts.Need-same-length-2 (long-claims t) (encode-long-sequence-at t) encode-long-sequence.Post encode-long-sequence-Inv-loop encode-long-sequence-μ-loop
 encode-long-sequence-same-length-2 t c = search needs
 
--- src/segment.rt:116:9
-encode-long-sequence-returns-2 : (t : ℕ) → encode-long-sequence-lts.Need-returns-2 (
-  next-part-reads.Asked,
-  next-part-reads.Learnt,
-  write-repeat-reads.Asked,
-  write-repeat-reads.Learnt,
-  encode-segment-below t,
-  encode-segment.Post,
-)
-    (encode-long-sequence-at t)
-    encode-long-sequence.Post
-    encode-long-sequence-Inv-loop
-    encode-long-sequence-μ-loop
+encode-long-sequence-returns-2 : (t : ℕ) → encode-long-sequence-lts.Need-returns-2 (long-claims t) (encode-long-sequence-at t) encode-long-sequence.Post encode-long-sequence-Inv-loop encode-long-sequence-μ-loop
 encode-long-sequence-returns-2 t c = let l = c .before .before .loop in head-done (l .inv .1) (longRun-none (c .before .before .before .before .args .last) (l .left) (omega arith))
 
--- src/segment.rt:120:24
-encode-long-sequence-sub-encode-segment :
-    (t : ℕ) → encode-long-sequence-lts.Need-sub-encode-segment (
-      next-part-reads.Asked,
-      next-part-reads.Learnt,
-      write-repeat-reads.Asked,
-      write-repeat-reads.Learnt,
-      encode-segment-below t,
-      encode-segment.Post,
-    )
-    (encode-long-sequence-at t)
-    encode-long-sequence.Post
-    encode-long-sequence-Inv-loop
-    encode-long-sequence-μ-loop
+encode-long-sequence-sub-encode-segment : (t : ℕ) → encode-long-sequence-lts.Need-sub-encode-segment (long-claims t) (encode-long-sequence-at t) encode-long-sequence.Post encode-long-sequence-Inv-loop encode-long-sequence-μ-loop
 encode-long-sequence-sub-encode-segment t c = search needs
 
--- src/segment.rt:120:24
-encode-long-sequence-part-encode-segment-start :
-    (t : ℕ) → encode-long-sequence-lts.Need-part-encode-segment-start (
-      next-part-reads.Asked,
-      next-part-reads.Learnt,
-      write-repeat-reads.Asked,
-      write-repeat-reads.Learnt,
-      encode-segment-below t,
-      encode-segment.Post,
-    )
-    (encode-long-sequence-at t)
-    encode-long-sequence.Post
-    encode-long-sequence-Inv-loop
-    encode-long-sequence-μ-loop
+encode-long-sequence-part-encode-segment-start : (t : ℕ) → encode-long-sequence-lts.Need-part-encode-segment-start (long-claims t) (encode-long-sequence-at t) encode-long-sequence.Post encode-long-sequence-Inv-loop encode-long-sequence-μ-loop
 encode-long-sequence-part-encode-segment-start t c = search needs
 
--- src/segment.rt:120:24
-encode-long-sequence-part-encode-segment-end :
-    (t : ℕ) → encode-long-sequence-lts.Need-part-encode-segment-end (
-      next-part-reads.Asked,
-      next-part-reads.Learnt,
-      write-repeat-reads.Asked,
-      write-repeat-reads.Learnt,
-      encode-segment-below t,
-      encode-segment.Post,
-    )
-    (encode-long-sequence-at t)
-    encode-long-sequence.Post
-    encode-long-sequence-Inv-loop
-    encode-long-sequence-μ-loop
+encode-long-sequence-part-encode-segment-end : (t : ℕ) → encode-long-sequence-lts.Need-part-encode-segment-end (long-claims t) (encode-long-sequence-at t) encode-long-sequence.Post encode-long-sequence-Inv-loop encode-long-sequence-μ-loop
 encode-long-sequence-part-encode-segment-end t c = search needs
 
--- src/segment.rt:120:9
-encode-long-sequence-encode-segment-requires :
-    (t : ℕ) → encode-long-sequence-lts.Need-encode-segment-requires (
-      next-part-reads.Asked,
-      next-part-reads.Learnt,
-      write-repeat-reads.Asked,
-      write-repeat-reads.Learnt,
-      encode-segment-below t,
-      encode-segment.Post,
-    )
-    (encode-long-sequence-at t)
-    encode-long-sequence.Post
-    encode-long-sequence-Inv-loop
-    encode-long-sequence-μ-loop
+encode-long-sequence-encode-segment-requires : (t : ℕ) → encode-long-sequence-lts.Need-encode-segment-requires (long-claims t) (encode-long-sequence-at t) encode-long-sequence.Post encode-long-sequence-Inv-loop encode-long-sequence-μ-loop
 encode-long-sequence-encode-segment-requires t c κs = search needs
 
--- src/segment.rt:122:24
-encode-long-sequence-sub-encode-segment-2 :
-    (t : ℕ) → encode-long-sequence-lts.Need-sub-encode-segment-2 (
-      next-part-reads.Asked,
-      next-part-reads.Learnt,
-      write-repeat-reads.Asked,
-      write-repeat-reads.Learnt,
-      encode-segment-below t,
-      encode-segment.Post,
-    )
-    (encode-long-sequence-at t)
-    encode-long-sequence.Post
-    encode-long-sequence-Inv-loop
-    encode-long-sequence-μ-loop
+encode-long-sequence-sub-encode-segment-2 : (t : ℕ) → encode-long-sequence-lts.Need-sub-encode-segment-2 (long-claims t) (encode-long-sequence-at t) encode-long-sequence.Post encode-long-sequence-Inv-loop encode-long-sequence-μ-loop
 encode-long-sequence-sub-encode-segment-2 t c = search needs
 
--- src/segment.rt:122:24
-encode-long-sequence-part-encode-segment-start-2 :
-    (t : ℕ) → encode-long-sequence-lts.Need-part-encode-segment-start-2 (
-      next-part-reads.Asked,
-      next-part-reads.Learnt,
-      write-repeat-reads.Asked,
-      write-repeat-reads.Learnt,
-      encode-segment-below t,
-      encode-segment.Post,
-    )
-    (encode-long-sequence-at t)
-    encode-long-sequence.Post
-    encode-long-sequence-Inv-loop
-    encode-long-sequence-μ-loop
+encode-long-sequence-part-encode-segment-start-2 : (t : ℕ) → encode-long-sequence-lts.Need-part-encode-segment-start-2 (long-claims t) (encode-long-sequence-at t) encode-long-sequence.Post encode-long-sequence-Inv-loop encode-long-sequence-μ-loop
 encode-long-sequence-part-encode-segment-start-2 t c = search needs
 
--- src/segment.rt:122:24
-encode-long-sequence-part-encode-segment-end-2 :
-    (t : ℕ) → encode-long-sequence-lts.Need-part-encode-segment-end-2 (
-      next-part-reads.Asked,
-      next-part-reads.Learnt,
-      write-repeat-reads.Asked,
-      write-repeat-reads.Learnt,
-      encode-segment-below t,
-      encode-segment.Post,
-    )
-    (encode-long-sequence-at t)
-    encode-long-sequence.Post
-    encode-long-sequence-Inv-loop
-    encode-long-sequence-μ-loop
+encode-long-sequence-part-encode-segment-end-2 : (t : ℕ) → encode-long-sequence-lts.Need-part-encode-segment-end-2 (long-claims t) (encode-long-sequence-at t) encode-long-sequence.Post encode-long-sequence-Inv-loop encode-long-sequence-μ-loop
 encode-long-sequence-part-encode-segment-end-2 t c = search needs
 
--- src/segment.rt:122:36
-encode-long-sequence-sub-encode-segment-3 :
-    (t : ℕ) → encode-long-sequence-lts.Need-sub-encode-segment-3 (
-      next-part-reads.Asked,
-      next-part-reads.Learnt,
-      write-repeat-reads.Asked,
-      write-repeat-reads.Learnt,
-      encode-segment-below t,
-      encode-segment.Post,
-    )
-    (encode-long-sequence-at t)
-    encode-long-sequence.Post
-    encode-long-sequence-Inv-loop
-    encode-long-sequence-μ-loop
+encode-long-sequence-sub-encode-segment-3 : (t : ℕ) → encode-long-sequence-lts.Need-sub-encode-segment-3 (long-claims t) (encode-long-sequence-at t) encode-long-sequence.Post encode-long-sequence-Inv-loop encode-long-sequence-μ-loop
 encode-long-sequence-sub-encode-segment-3 t c = search needs
 
--- src/segment.rt:122:9
-encode-long-sequence-encode-segment-requires-2 :
-    (t : ℕ) → encode-long-sequence-lts.Need-encode-segment-requires-2 (
-      next-part-reads.Asked,
-      next-part-reads.Learnt,
-      write-repeat-reads.Asked,
-      write-repeat-reads.Learnt,
-      encode-segment-below t,
-      encode-segment.Post,
-    )
-    (encode-long-sequence-at t)
-    encode-long-sequence.Post
-    encode-long-sequence-Inv-loop
-    encode-long-sequence-μ-loop
+encode-long-sequence-encode-segment-requires-2 : (t : ℕ) → encode-long-sequence-lts.Need-encode-segment-requires-2 (long-claims t) (encode-long-sequence-at t) encode-long-sequence.Post encode-long-sequence-Inv-loop encode-long-sequence-μ-loop
 encode-long-sequence-encode-segment-requires-2 t c κs = search needs
 
--- src/segment.rt:99:1
-encode-long-sequence-same-length-3 : (t : ℕ) → encode-long-sequence-lts.Need-same-length-3 (
-  next-part-reads.Asked,
-  next-part-reads.Learnt,
-  write-repeat-reads.Asked,
-  write-repeat-reads.Learnt,
-  encode-segment-below t,
-  encode-segment.Post,
-)
-    (encode-long-sequence-at t)
-    encode-long-sequence.Post
-    encode-long-sequence-Inv-loop
-    encode-long-sequence-μ-loop
+encode-long-sequence-same-length-3 : (t : ℕ) → encode-long-sequence-lts.Need-same-length-3 (long-claims t) (encode-long-sequence-at t) encode-long-sequence.Post encode-long-sequence-Inv-loop encode-long-sequence-μ-loop
 encode-long-sequence-same-length-3 t c = search needs
 
--- src/segment.rt:99:1
-encode-long-sequence-returns-3 : (t : ℕ) → encode-long-sequence-lts.Need-returns-3 (
-  next-part-reads.Asked,
-  next-part-reads.Learnt,
-  write-repeat-reads.Asked,
-  write-repeat-reads.Learnt,
-  encode-segment-below t,
-  encode-segment.Post,
-)
-    (encode-long-sequence-at t)
-    encode-long-sequence.Post
-    encode-long-sequence-Inv-loop
-    encode-long-sequence-μ-loop
+encode-long-sequence-returns-3 : (t : ℕ) → encode-long-sequence-lts.Need-returns-3 (long-claims t) (encode-long-sequence-at t) encode-long-sequence.Post encode-long-sequence-Inv-loop encode-long-sequence-μ-loop
 encode-long-sequence-returns-3 t c =
     let l = c .before .before .before .before .before .before .before .before .before .loop in
     let last = c .before .before .before .before .before .before .before .before .before .before .before .args .last in
@@ -442,34 +162,10 @@ encode-long-sequence-returns-3 t c =
     head-last (head-rest (l .inv .1) (segmentsOf (take (l .left - 0) (last ∷ last ∷ last ∷ [])) 0) (few-left last (l .left) (omega arith) (omega arith)))
     (call .last .1 .1 .0) (call .result) (call .ensures)
 
--- src/segment.rt:99:1
-encode-long-sequence-same-length-4 : (t : ℕ) → encode-long-sequence-lts.Need-same-length-4 (
-  next-part-reads.Asked,
-  next-part-reads.Learnt,
-  write-repeat-reads.Asked,
-  write-repeat-reads.Learnt,
-  encode-segment-below t,
-  encode-segment.Post,
-)
-    (encode-long-sequence-at t)
-    encode-long-sequence.Post
-    encode-long-sequence-Inv-loop
-    encode-long-sequence-μ-loop
+encode-long-sequence-same-length-4 : (t : ℕ) → encode-long-sequence-lts.Need-same-length-4 (long-claims t) (encode-long-sequence-at t) encode-long-sequence.Post encode-long-sequence-Inv-loop encode-long-sequence-μ-loop
 encode-long-sequence-same-length-4 t c = search needs
 
--- src/segment.rt:99:1
-encode-long-sequence-returns-4 : (t : ℕ) → encode-long-sequence-lts.Need-returns-4 (
-  next-part-reads.Asked,
-  next-part-reads.Learnt,
-  write-repeat-reads.Asked,
-  write-repeat-reads.Learnt,
-  encode-segment-below t,
-  encode-segment.Post,
-)
-    (encode-long-sequence-at t)
-    encode-long-sequence.Post
-    encode-long-sequence-Inv-loop
-    encode-long-sequence-μ-loop
+encode-long-sequence-returns-4 : (t : ℕ) → encode-long-sequence-lts.Need-returns-4 (long-claims t) (encode-long-sequence-at t) encode-long-sequence.Post encode-long-sequence-Inv-loop encode-long-sequence-μ-loop
 encode-long-sequence-returns-4 t c =
     let l = c .before .before .before .before .before .before .before .before .before .loop in
     let last = c .before .before .before .before .before .before .before .before .before .before .before .args .last in
@@ -483,104 +179,37 @@ encode-segment-Inv-loop raw run dst₀ at start₀ to₀ dst start to = (start <
 abbrev encode-segment-μ-loop : encode-segment-lts.MeasureT-loop
 encode-segment-μ-loop raw run dst₀ at start₀ to₀ dst start to = length raw - start
 
--- src/segment.rt:77:5
-encode-segment-loop-holds : (t : ℕ) → encode-segment-lts.Need-loop-holds (
-  write-literal-reads.Asked,
-  write-literal-reads.Learnt,
-  encode-long-sequence-below t,
-  encode-long-sequence.Post,
-) (encode-segment-at t) encode-segment.Post encode-segment-Inv-loop encode-segment-μ-loop
+encode-segment-loop-holds : (t : ℕ) → encode-segment-lts.Need-loop-holds (segment-claims t) (encode-segment-at t) encode-segment.Post encode-segment-Inv-loop encode-segment-μ-loop
 encode-segment-loop-holds t c = let a = c .before .before .args in (omega arith, head-first (segmentsOf (a .raw .now) (a .run)) (a .dst .now) (a .at) (omega arith))
 
--- src/segment.rt:77:16
-encode-segment-sub-loop : (t : ℕ) → encode-segment-lts.Need-sub-loop (
-  write-literal-reads.Asked,
-  write-literal-reads.Learnt,
-  encode-long-sequence-below t,
-  encode-long-sequence.Post,
-) (encode-segment-at t) encode-segment.Post encode-segment-Inv-loop encode-segment-μ-loop
+encode-segment-sub-loop : (t : ℕ) → encode-segment-lts.Need-sub-loop (segment-claims t) (encode-segment-at t) encode-segment.Post encode-segment-Inv-loop encode-segment-μ-loop
 encode-segment-sub-loop t c = search needs
 
--- src/segment.rt:78:48
-encode-segment-add-write-literal : (t : ℕ) → encode-segment-lts.Need-add-write-literal (
-  write-literal-reads.Asked,
-  write-literal-reads.Learnt,
-  encode-long-sequence-below t,
-  encode-long-sequence.Post,
-) (encode-segment-at t) encode-segment.Post encode-segment-Inv-loop encode-segment-μ-loop
+encode-segment-add-write-literal : (t : ℕ) → encode-segment-lts.Need-add-write-literal (segment-claims t) (encode-segment-at t) encode-segment.Post encode-segment-Inv-loop encode-segment-μ-loop
 encode-segment-add-write-literal t c = search needs
 
--- src/segment.rt:78:36
-encode-segment-sub-write-literal : (t : ℕ) → encode-segment-lts.Need-sub-write-literal (
-  write-literal-reads.Asked,
-  write-literal-reads.Learnt,
-  encode-long-sequence-below t,
-  encode-long-sequence.Post,
-) (encode-segment-at t) encode-segment.Post encode-segment-Inv-loop encode-segment-μ-loop
+encode-segment-sub-write-literal : (t : ℕ) → encode-segment-lts.Need-sub-write-literal (segment-claims t) (encode-segment-at t) encode-segment.Post encode-segment-Inv-loop encode-segment-μ-loop
 encode-segment-sub-write-literal t c = search needs
 
--- src/segment.rt:78:36
-encode-segment-part-write-literal-start :
-    (t : ℕ) → encode-segment-lts.Need-part-write-literal-start (
-      write-literal-reads.Asked,
-      write-literal-reads.Learnt,
-      encode-long-sequence-below t,
-      encode-long-sequence.Post,
-    ) (encode-segment-at t) encode-segment.Post encode-segment-Inv-loop encode-segment-μ-loop
+encode-segment-part-write-literal-start : (t : ℕ) → encode-segment-lts.Need-part-write-literal-start (segment-claims t) (encode-segment-at t) encode-segment.Post encode-segment-Inv-loop encode-segment-μ-loop
 encode-segment-part-write-literal-start t c = search needs
 
--- src/segment.rt:78:36
-encode-segment-part-write-literal-end : (t : ℕ) → encode-segment-lts.Need-part-write-literal-end (
-  write-literal-reads.Asked,
-  write-literal-reads.Learnt,
-  encode-long-sequence-below t,
-  encode-long-sequence.Post,
-) (encode-segment-at t) encode-segment.Post encode-segment-Inv-loop encode-segment-μ-loop
+encode-segment-part-write-literal-end : (t : ℕ) → encode-segment-lts.Need-part-write-literal-end (segment-claims t) (encode-segment-at t) encode-segment.Post encode-segment-Inv-loop encode-segment-μ-loop
 encode-segment-part-write-literal-end t c = search needs
 
--- src/segment.rt:78:13
-encode-segment-write-literal-requires : (t : ℕ) → encode-segment-lts.Need-write-literal-requires (
-  write-literal-reads.Asked,
-  write-literal-reads.Learnt,
-  encode-long-sequence-below t,
-  encode-long-sequence.Post,
-) (encode-segment-at t) encode-segment.Post encode-segment-Inv-loop encode-segment-μ-loop
+encode-segment-write-literal-requires : (t : ℕ) → encode-segment-lts.Need-write-literal-requires (segment-claims t) (encode-segment-at t) encode-segment.Post encode-segment-Inv-loop encode-segment-μ-loop
 encode-segment-write-literal-requires t c κs = search needs
 
--- src/segment.rt:79:29
-encode-segment-enum-known-answer : (t : ℕ) → encode-segment-lts.Need-enum-known-answer (
-  write-literal-reads.Asked,
-  write-literal-reads.Learnt,
-  encode-long-sequence-below t,
-  encode-long-sequence.Post,
-) (encode-segment-at t) encode-segment.Post encode-segment-Inv-loop encode-segment-μ-loop
+encode-segment-enum-known-answer : (t : ℕ) → encode-segment-lts.Need-enum-known-answer (segment-claims t) (encode-segment-at t) encode-segment.Post encode-segment-Inv-loop encode-segment-μ-loop
 encode-segment-enum-known-answer t c = search needs
 
--- src/segment.rt:80:13
-encode-segment-enum-told : (t : ℕ) → encode-segment-lts.Need-enum-told (
-  write-literal-reads.Asked,
-  write-literal-reads.Learnt,
-  encode-long-sequence-below t,
-  encode-long-sequence.Post,
-) (encode-segment-at t) encode-segment.Post encode-segment-Inv-loop encode-segment-μ-loop
+encode-segment-enum-told : (t : ℕ) → encode-segment-lts.Need-enum-told (segment-claims t) (encode-segment-at t) encode-segment.Post encode-segment-Inv-loop encode-segment-μ-loop
 encode-segment-enum-told t c = search needs
 
--- src/segment.rt:80:13
-encode-segment-same-length : (t : ℕ) → encode-segment-lts.Need-same-length (
-  write-literal-reads.Asked,
-  write-literal-reads.Learnt,
-  encode-long-sequence-below t,
-  encode-long-sequence.Post,
-) (encode-segment-at t) encode-segment.Post encode-segment-Inv-loop encode-segment-μ-loop
+encode-segment-same-length : (t : ℕ) → encode-segment-lts.Need-same-length (segment-claims t) (encode-segment-at t) encode-segment.Post encode-segment-Inv-loop encode-segment-μ-loop
 encode-segment-same-length t c = search needs
 
--- src/segment.rt:80:13
-encode-segment-returns : (t : ℕ) → encode-segment-lts.Need-returns (
-  write-literal-reads.Asked,
-  write-literal-reads.Learnt,
-  encode-long-sequence-below t,
-  encode-long-sequence.Post,
-) (encode-segment-at t) encode-segment.Post encode-segment-Inv-loop encode-segment-μ-loop
+encode-segment-returns : (t : ℕ) → encode-segment-lts.Need-returns (segment-claims t) (encode-segment-at t) encode-segment.Post encode-segment-Inv-loop encode-segment-μ-loop
 encode-segment-returns t c =
     let l = c .before .before .before .before .before .before .before .before .loop in
     let a = c .before .before .before .before .before .before .before .before .before .before .before .args in
@@ -588,31 +217,13 @@ encode-segment-returns t c =
     head-stop (l .inv .1) (literal (take (l .start + 15 - l .start) (drop (l .start) (a .raw .now))) 0 ∷ []) (segmentsOf (drop (l .start + 15) (a .raw .now)) (a .run))
     (put .last .1 .1 .0) (put .result) (c .enum-told .given .0 .0) (segment-turn (a .raw .now) (a .run) (l .start) (omega arith)) (put .ensures) (c .enum-told .given .1)
 
--- src/segment.rt:83:9
-encode-segment-add-start : (t : ℕ) → encode-segment-lts.Need-add-start (
-  write-literal-reads.Asked,
-  write-literal-reads.Learnt,
-  encode-long-sequence-below t,
-  encode-long-sequence.Post,
-) (encode-segment-at t) encode-segment.Post encode-segment-Inv-loop encode-segment-μ-loop
+encode-segment-add-start : (t : ℕ) → encode-segment-lts.Need-add-start (segment-claims t) (encode-segment-at t) encode-segment.Post encode-segment-Inv-loop encode-segment-μ-loop
 encode-segment-add-start t c = search needs
 
--- src/segment.rt:77:5
-encode-segment-loop-less : (t : ℕ) → encode-segment-lts.Need-loop-less (
-  write-literal-reads.Asked,
-  write-literal-reads.Learnt,
-  encode-long-sequence-below t,
-  encode-long-sequence.Post,
-) (encode-segment-at t) encode-segment.Post encode-segment-Inv-loop encode-segment-μ-loop
+encode-segment-loop-less : (t : ℕ) → encode-segment-lts.Need-loop-less (segment-claims t) (encode-segment-at t) encode-segment.Post encode-segment-Inv-loop encode-segment-μ-loop
 encode-segment-loop-less t c = search needs
 
--- src/segment.rt:77:5
-encode-segment-loop-again : (t : ℕ) → encode-segment-lts.Need-loop-again (
-  write-literal-reads.Asked,
-  write-literal-reads.Learnt,
-  encode-long-sequence-below t,
-  encode-long-sequence.Post,
-) (encode-segment-at t) encode-segment.Post encode-segment-Inv-loop encode-segment-μ-loop
+encode-segment-loop-again : (t : ℕ) → encode-segment-lts.Need-loop-again (segment-claims t) (encode-segment-at t) encode-segment.Post encode-segment-Inv-loop encode-segment-μ-loop
 encode-segment-loop-again t c =
     let l = c .before .before .before .before .before .before .before .before .before .loop in
     let a = c .before .before .before .before .before .before .before .before .before .before .before .before .args in
@@ -622,97 +233,34 @@ encode-segment-loop-again t c =
           (put .last .1 .1 .0) (put .result) (c .before .answer .given .0 .0) (segment-turn (a .raw .now) (a .run) (l .start) (omega arith)) (put .ensures) (c .before .answer .given .1),
     )
 
--- src/segment.rt:86:24
-encode-segment-sub-last : (t : ℕ) → encode-segment-lts.Need-sub-last (
-  write-literal-reads.Asked,
-  write-literal-reads.Learnt,
-  encode-long-sequence-below t,
-  encode-long-sequence.Post,
-) (encode-segment-at t) encode-segment.Post encode-segment-Inv-loop encode-segment-μ-loop
+encode-segment-sub-last : (t : ℕ) → encode-segment-lts.Need-sub-last (segment-claims t) (encode-segment-at t) encode-segment.Post encode-segment-Inv-loop encode-segment-μ-loop
 encode-segment-sub-last t c = search needs
 
--- src/segment.rt:86:20
-encode-segment-shared-slice-read-last : (t : ℕ) → encode-segment-lts.Need-shared-slice-read-last (
-  write-literal-reads.Asked,
-  write-literal-reads.Learnt,
-  encode-long-sequence-below t,
-  encode-long-sequence.Post,
-) (encode-segment-at t) encode-segment.Post encode-segment-Inv-loop encode-segment-μ-loop
+encode-segment-shared-slice-read-last : (t : ℕ) → encode-segment-lts.Need-shared-slice-read-last (segment-claims t) (encode-segment-at t) encode-segment.Post encode-segment-Inv-loop encode-segment-μ-loop
 encode-segment-shared-slice-read-last t c = search needs
 
--- src/segment.rt:87:36
-encode-segment-sub-write-literal-2 : (t : ℕ) → encode-segment-lts.Need-sub-write-literal-2 (
-  write-literal-reads.Asked,
-  write-literal-reads.Learnt,
-  encode-long-sequence-below t,
-  encode-long-sequence.Post,
-) (encode-segment-at t) encode-segment.Post encode-segment-Inv-loop encode-segment-μ-loop
+encode-segment-sub-write-literal-2 : (t : ℕ) → encode-segment-lts.Need-sub-write-literal-2 (segment-claims t) (encode-segment-at t) encode-segment.Post encode-segment-Inv-loop encode-segment-μ-loop
 encode-segment-sub-write-literal-2 t c = search needs
 
--- src/segment.rt:87:36
-encode-segment-part-write-literal-start-2 :
-    (t : ℕ) → encode-segment-lts.Need-part-write-literal-start-2 (
-      write-literal-reads.Asked,
-      write-literal-reads.Learnt,
-      encode-long-sequence-below t,
-      encode-long-sequence.Post,
-    ) (encode-segment-at t) encode-segment.Post encode-segment-Inv-loop encode-segment-μ-loop
+encode-segment-part-write-literal-start-2 : (t : ℕ) → encode-segment-lts.Need-part-write-literal-start-2 (segment-claims t) (encode-segment-at t) encode-segment.Post encode-segment-Inv-loop encode-segment-μ-loop
 encode-segment-part-write-literal-start-2 t c = search needs
 
--- src/segment.rt:87:36
-encode-segment-part-write-literal-end-2 :
-    (t : ℕ) → encode-segment-lts.Need-part-write-literal-end-2 (
-      write-literal-reads.Asked,
-      write-literal-reads.Learnt,
-      encode-long-sequence-below t,
-      encode-long-sequence.Post,
-    ) (encode-segment-at t) encode-segment.Post encode-segment-Inv-loop encode-segment-μ-loop
+encode-segment-part-write-literal-end-2 : (t : ℕ) → encode-segment-lts.Need-part-write-literal-end-2 (segment-claims t) (encode-segment-at t) encode-segment.Post encode-segment-Inv-loop encode-segment-μ-loop
 encode-segment-part-write-literal-end-2 t c = search needs
 
--- src/segment.rt:87:13
-encode-segment-write-literal-requires-2 :
-    (t : ℕ) → encode-segment-lts.Need-write-literal-requires-2 (
-      write-literal-reads.Asked,
-      write-literal-reads.Learnt,
-      encode-long-sequence-below t,
-      encode-long-sequence.Post,
-    ) (encode-segment-at t) encode-segment.Post encode-segment-Inv-loop encode-segment-μ-loop
+encode-segment-write-literal-requires-2 : (t : ℕ) → encode-segment-lts.Need-write-literal-requires-2 (segment-claims t) (encode-segment-at t) encode-segment.Post encode-segment-Inv-loop encode-segment-μ-loop
 encode-segment-write-literal-requires-2 t c κs = search needs
 
--- src/segment.rt:88:29
-encode-segment-enum-known-answer-2 : (t : ℕ) → encode-segment-lts.Need-enum-known-answer-2 (
-  write-literal-reads.Asked,
-  write-literal-reads.Learnt,
-  encode-long-sequence-below t,
-  encode-long-sequence.Post,
-) (encode-segment-at t) encode-segment.Post encode-segment-Inv-loop encode-segment-μ-loop
+encode-segment-enum-known-answer-2 : (t : ℕ) → encode-segment-lts.Need-enum-known-answer-2 (segment-claims t) (encode-segment-at t) encode-segment.Post encode-segment-Inv-loop encode-segment-μ-loop
 encode-segment-enum-known-answer-2 t c = search needs
 
--- src/segment.rt:89:13
-encode-segment-enum-told-2 : (t : ℕ) → encode-segment-lts.Need-enum-told-2 (
-  write-literal-reads.Asked,
-  write-literal-reads.Learnt,
-  encode-long-sequence-below t,
-  encode-long-sequence.Post,
-) (encode-segment-at t) encode-segment.Post encode-segment-Inv-loop encode-segment-μ-loop
+encode-segment-enum-told-2 : (t : ℕ) → encode-segment-lts.Need-enum-told-2 (segment-claims t) (encode-segment-at t) encode-segment.Post encode-segment-Inv-loop encode-segment-μ-loop
 encode-segment-enum-told-2 t c = search needs
 
--- src/segment.rt:89:13
-encode-segment-same-length-2 : (t : ℕ) → encode-segment-lts.Need-same-length-2 (
-  write-literal-reads.Asked,
-  write-literal-reads.Learnt,
-  encode-long-sequence-below t,
-  encode-long-sequence.Post,
-) (encode-segment-at t) encode-segment.Post encode-segment-Inv-loop encode-segment-μ-loop
+encode-segment-same-length-2 : (t : ℕ) → encode-segment-lts.Need-same-length-2 (segment-claims t) (encode-segment-at t) encode-segment.Post encode-segment-Inv-loop encode-segment-μ-loop
 encode-segment-same-length-2 t c = search needs
 
--- src/segment.rt:89:13
-encode-segment-returns-2 : (t : ℕ) → encode-segment-lts.Need-returns-2 (
-  write-literal-reads.Asked,
-  write-literal-reads.Learnt,
-  encode-long-sequence-below t,
-  encode-long-sequence.Post,
-) (encode-segment-at t) encode-segment.Post encode-segment-Inv-loop encode-segment-μ-loop
+encode-segment-returns-2 : (t : ℕ) → encode-segment-lts.Need-returns-2 (segment-claims t) (encode-segment-at t) encode-segment.Post encode-segment-Inv-loop encode-segment-μ-loop
 encode-segment-returns-2 t c =
     let l = c .before .before .before .before .before .before .before .before .before .before .loop in
     let a = c .before .before .before .before .before .before .before .before .before .before .before .before .before .args in
@@ -721,24 +269,10 @@ encode-segment-returns-2 t c =
     (longRun (getD (a .raw .now) (length (a .raw .now) - 1) 0) (a .run - 15)) (put .last .1 .1 .0) (put .result) (c .enum-told2 .given .0 .0)
     (segment-long (a .raw .now) (a .run) (l .start) (l .inv .0) (omega arith) (omega arith)) (put .ensures) (c .enum-told2 .given .1)
 
--- src/segment.rt:91:30
-encode-segment-sub-encode-long-sequence :
-    (t : ℕ) → encode-segment-lts.Need-sub-encode-long-sequence (
-      write-literal-reads.Asked,
-      write-literal-reads.Learnt,
-      encode-long-sequence-below t,
-      encode-long-sequence.Post,
-    ) (encode-segment-at t) encode-segment.Post encode-segment-Inv-loop encode-segment-μ-loop
+encode-segment-sub-encode-long-sequence : (t : ℕ) → encode-segment-lts.Need-sub-encode-long-sequence (segment-claims t) (encode-segment-at t) encode-segment.Post encode-segment-Inv-loop encode-segment-μ-loop
 encode-segment-sub-encode-long-sequence t c = search needs
 
--- src/segment.rt:91:9
-encode-segment-encode-long-sequence-requires :
-    (t : ℕ) → encode-segment-lts.Need-encode-long-sequence-requires (
-      write-literal-reads.Asked,
-      write-literal-reads.Learnt,
-      encode-long-sequence-below t,
-      encode-long-sequence.Post,
-    ) (encode-segment-at t) encode-segment.Post encode-segment-Inv-loop encode-segment-μ-loop
+encode-segment-encode-long-sequence-requires : (t : ℕ) → encode-segment-lts.Need-encode-long-sequence-requires (segment-claims t) (encode-segment-at t) encode-segment.Post encode-segment-Inv-loop encode-segment-μ-loop
 encode-segment-encode-long-sequence-requires t c κs =
     let l = c .before .before .before .before .before .before .before .before .before .before .before .before .loop in
     let a = c .before .before .before .before .before .before .before .before .before .before .before .before .before .before .before .args in
@@ -748,61 +282,22 @@ encode-segment-encode-long-sequence-requires t c κs =
     (segment-long (a .raw .now) (a .run) (l .start) (l .inv .0) (omega arith) (omega arith)) (put .ensures) (c .before .before .answer2 .given .1) in
     (omega arith, turn .within)
 
--- src/segment.rt:93:23
-encode-segment-sub-write-literal-3 : (t : ℕ) → encode-segment-lts.Need-sub-write-literal-3 (
-  write-literal-reads.Asked,
-  write-literal-reads.Learnt,
-  encode-long-sequence-below t,
-  encode-long-sequence.Post,
-) (encode-segment-at t) encode-segment.Post encode-segment-Inv-loop encode-segment-μ-loop
+encode-segment-sub-write-literal-3 : (t : ℕ) → encode-segment-lts.Need-sub-write-literal-3 (segment-claims t) (encode-segment-at t) encode-segment.Post encode-segment-Inv-loop encode-segment-μ-loop
 encode-segment-sub-write-literal-3 t c = search needs
 
--- src/segment.rt:93:23
-encode-segment-part-write-literal-start-3 :
-    (t : ℕ) → encode-segment-lts.Need-part-write-literal-start-3 (
-      write-literal-reads.Asked,
-      write-literal-reads.Learnt,
-      encode-long-sequence-below t,
-      encode-long-sequence.Post,
-    ) (encode-segment-at t) encode-segment.Post encode-segment-Inv-loop encode-segment-μ-loop
+encode-segment-part-write-literal-start-3 : (t : ℕ) → encode-segment-lts.Need-part-write-literal-start-3 (segment-claims t) (encode-segment-at t) encode-segment.Post encode-segment-Inv-loop encode-segment-μ-loop
 encode-segment-part-write-literal-start-3 t c = search needs
 
--- src/segment.rt:93:23
-encode-segment-part-write-literal-end-3 :
-    (t : ℕ) → encode-segment-lts.Need-part-write-literal-end-3 (
-      write-literal-reads.Asked,
-      write-literal-reads.Learnt,
-      encode-long-sequence-below t,
-      encode-long-sequence.Post,
-    ) (encode-segment-at t) encode-segment.Post encode-segment-Inv-loop encode-segment-μ-loop
+encode-segment-part-write-literal-end-3 : (t : ℕ) → encode-segment-lts.Need-part-write-literal-end-3 (segment-claims t) (encode-segment-at t) encode-segment.Post encode-segment-Inv-loop encode-segment-μ-loop
 encode-segment-part-write-literal-end-3 t c = search needs
 
--- src/segment.rt:93:9
-encode-segment-write-literal-requires-3 :
-    (t : ℕ) → encode-segment-lts.Need-write-literal-requires-3 (
-      write-literal-reads.Asked,
-      write-literal-reads.Learnt,
-      encode-long-sequence-below t,
-      encode-long-sequence.Post,
-    ) (encode-segment-at t) encode-segment.Post encode-segment-Inv-loop encode-segment-μ-loop
+encode-segment-write-literal-requires-3 : (t : ℕ) → encode-segment-lts.Need-write-literal-requires-3 (segment-claims t) (encode-segment-at t) encode-segment.Post encode-segment-Inv-loop encode-segment-μ-loop
 encode-segment-write-literal-requires-3 t c κs = search needs
 
--- src/segment.rt:70:1
-encode-segment-same-length-3 : (t : ℕ) → encode-segment-lts.Need-same-length-3 (
-  write-literal-reads.Asked,
-  write-literal-reads.Learnt,
-  encode-long-sequence-below t,
-  encode-long-sequence.Post,
-) (encode-segment-at t) encode-segment.Post encode-segment-Inv-loop encode-segment-μ-loop
+encode-segment-same-length-3 : (t : ℕ) → encode-segment-lts.Need-same-length-3 (segment-claims t) (encode-segment-at t) encode-segment.Post encode-segment-Inv-loop encode-segment-μ-loop
 encode-segment-same-length-3 t c = search needs
 
--- src/segment.rt:70:1
-encode-segment-returns-3 : (t : ℕ) → encode-segment-lts.Need-returns-3 (
-  write-literal-reads.Asked,
-  write-literal-reads.Learnt,
-  encode-long-sequence-below t,
-  encode-long-sequence.Post,
-) (encode-segment-at t) encode-segment.Post encode-segment-Inv-loop encode-segment-μ-loop
+encode-segment-returns-3 : (t : ℕ) → encode-segment-lts.Need-returns-3 (segment-claims t) (encode-segment-at t) encode-segment.Post encode-segment-Inv-loop encode-segment-μ-loop
 encode-segment-returns-3 t c =
     let l = c .before .before .before .before .before .before .before .before .before .before .before .before .before .before .before .loop in
     let a = c .before .before .before .before .before .before .before .before .before .before .before .before .before .before .before .before .before .before .args in
@@ -813,22 +308,10 @@ encode-segment-returns-3 t c =
     let call = c .before .before .encode-long-sequence in
     head-last turn (call .last .1 .1 .0) (call .result) (call .ensures)
 
--- src/segment.rt:70:1
-encode-segment-same-length-4 : (t : ℕ) → encode-segment-lts.Need-same-length-4 (
-  write-literal-reads.Asked,
-  write-literal-reads.Learnt,
-  encode-long-sequence-below t,
-  encode-long-sequence.Post,
-) (encode-segment-at t) encode-segment.Post encode-segment-Inv-loop encode-segment-μ-loop
+encode-segment-same-length-4 : (t : ℕ) → encode-segment-lts.Need-same-length-4 (segment-claims t) (encode-segment-at t) encode-segment.Post encode-segment-Inv-loop encode-segment-μ-loop
 encode-segment-same-length-4 t c = search needs
 
--- src/segment.rt:70:1
-encode-segment-returns-4 : (t : ℕ) → encode-segment-lts.Need-returns-4 (
-  write-literal-reads.Asked,
-  write-literal-reads.Learnt,
-  encode-long-sequence-below t,
-  encode-long-sequence.Post,
-) (encode-segment-at t) encode-segment.Post encode-segment-Inv-loop encode-segment-μ-loop
+encode-segment-returns-4 : (t : ℕ) → encode-segment-lts.Need-returns-4 (segment-claims t) (encode-segment-at t) encode-segment.Post encode-segment-Inv-loop encode-segment-μ-loop
 encode-segment-returns-4 t c =
     let l = c .before .before .before .before .before .before .before .loop in
     let a = c .before .before .before .before .before .before .before .before .before .before .args in
@@ -839,14 +322,7 @@ encode-segment-returns-4 t c =
 
 pub +encode-long-sequence+encode-segment-spec : {M : Type 1} → statement M
 +encode-long-sequence+encode-segment-spec =
-    close μ-encode-long-sequence μ-encode-segment (λ t. encode-long-sequence-lts.spec (
-      next-part-reads.Asked,
-      next-part-reads.Learnt,
-      write-repeat-reads.Asked,
-      write-repeat-reads.Learnt,
-      encode-segment-below t,
-      encode-segment.Post,
-    )
+    close μ-encode-long-sequence μ-encode-segment (λ t. encode-long-sequence-lts.spec (long-claims t)
     (encode-long-sequence-at t)
     encode-long-sequence.Post
     encode-long-sequence-Inv-loop
@@ -876,12 +352,7 @@ pub +encode-long-sequence+encode-segment-spec : {M : Type 1} → statement M
     (encode-long-sequence-returns-3 t)
     (encode-long-sequence-same-length-4 t)
     (encode-long-sequence-returns-4 t))
-    λ t. encode-segment-lts.spec (
-      write-literal-reads.Asked,
-      write-literal-reads.Learnt,
-      encode-long-sequence-below t,
-      encode-long-sequence.Post,
-    )
+    λ t. encode-segment-lts.spec (segment-claims t)
     (encode-segment-at t)
     encode-segment.Post
     encode-segment-Inv-loop

@@ -9,6 +9,8 @@ use Rattle.rle_format.proofs.Slice.{putAt-none, copy-more}
 use Rattle.rle_encoder.proofs.segment.copy_raw.Statement.{statement}
 use Rattle.rle_encoder.proofs.segment.copy_raw.Tie as tie
 
+-- `copy_raw`: after i turns the first i bytes are copied. Assumes nothing.
+
 abbrev Inv-loop : tie.InvT-loop
 Inv-loop raw dst₀ at i₀ dst i = (i ≤ length raw) × ((length dst ≡ length dst₀) × (dst ≡ putAt dst₀ at (take i raw)))
 

@@ -1,68 +1,53 @@
-use mathlib.Core.Path.{_≡_, sym, _∙_}
+-- `write_literal`: the control byte and the raw bytes, or nothing. Assumes nothing.
+use mathlib.Core.Path.{sym, _∙_}
 use Prim.Native.Nat.{_+_, _*_}
 use native.Mathlib.Omega.{arith}
-use lib.ListN.{length, set, length-set}
+use lib.ListN.{length, length-set}
 use Rattle.rle_format.specs.Pack.{literal}
 use Rattle.rle_format.proofs.Writing.{control-short}
 use Rattle.rle_encoder.proofs.Head.{wrote-none, wrote-one}
 use borrow.Author.Needs.{needs}
 use Rattle.rle_encoder.proofs.segment.write_literal.Statement.{statement}
 use Rattle.rle_encoder.proofs.segment.write_literal.Tie as tie
-use Rattle.rle_encoder.proofs.segment.write_literal.Reads as reads
-use Rattle.rle_encoder.proofs.segment.write_literal.Lts as lts
-use Rattle.rle_encoder.proofs.segment.copy_raw.Reads as copy-raw-reads
 
--- src/segment.rt:36:8
 sub-if1 : tie.Need-sub-if1
 sub-if1 c = search needs
 
--- src/segment.rt:36:25
 add-if1 : tie.Need-add-if1
 add-if1 c = search needs
 
--- src/segment.rt:37:9
 returns : tie.Need-returns
 returns c = let a = c .before .before .before .args in wrote-none (literal (a .raw .now) (a .run)) (a .dst .now) (a .at) (omega arith)
 
--- src/segment.rt:39:16
 mul-dst : tie.Need-mul-dst
 mul-dst c = search needs
 
--- src/segment.rt:39:16
 add-dst : tie.Need-add-dst
 add-dst c = search needs
 
--- src/segment.rt:39:15
 cast-dst : tie.Need-cast-dst
 cast-dst c = search needs
 
--- src/segment.rt:39:5
 slice-write-dst : tie.Need-slice-write-dst
 slice-write-dst c = search needs
 
--- src/segment.rt:40:24
 add-copy-raw : tie.Need-add-copy-raw
 add-copy-raw c = search needs
 
--- src/segment.rt:40:5
 copy-raw-requires : tie.Need-copy-raw-requires
 copy-raw-requires c κs = simp length-set (omega arith)
 
--- src/segment.rt:41:21
 add-t6 : tie.Need-add-t6
 add-t6 c = search needs
 
--- src/segment.rt:41:21
 add-t8 : tie.Need-add-t8
 add-t8 c = search needs
 
--- src/segment.rt:30:1
 same-length : tie.Need-same-length
 same-length c =
     let a = c .before .before .before .before .before .before .before .args in
     c .before .before .copy-raw .kept .1 .0 ∙ length-set (a .dst .now) (a .at) (16 * length (a .raw .now) + a .run)
 
--- src/segment.rt:30:1
 returns-2 : tie.Need-returns-2
 returns-2 c =
     let a = c .before .before .before .before .before .before .before .args in

@@ -1,4 +1,5 @@
-use mathlib.Core.Path.{_≡_, sym, _∙_}
+-- `write_repeat`: the control byte of a long run, or nothing. Assumes nothing.
+use mathlib.Core.Path.{sym}
 use Prim.Native.Nat.{_+_, _*_, _/_, _%_}
 use native.Mathlib.Omega.{arith}
 use lib.ListN.{set}
@@ -9,42 +10,31 @@ use Rattle.rle_encoder.proofs.Head.{wrote-none, wrote-one}
 use borrow.Author.Needs.{needs}
 use Rattle.rle_encoder.proofs.segment.write_repeat.Statement.{statement}
 use Rattle.rle_encoder.proofs.segment.write_repeat.Tie as tie
-use Rattle.rle_encoder.proofs.segment.write_repeat.Reads as reads
-use Rattle.rle_encoder.proofs.segment.write_repeat.Lts as lts
 
--- src/segment.rt:50:8
 sub-if1 : tie.Need-sub-if1
 sub-if1 c = search needs
 
--- src/segment.rt:51:9
 returns : tie.Need-returns
 returns c = let a = c .before .args in wrote-none (repeat (a .run)) (a .dst .now) (a .at) (omega arith)
 
--- src/segment.rt:53:16
 mul-dst : tie.Need-mul-dst
 mul-dst c = search needs
 
--- src/segment.rt:53:16
 add-dst : tie.Need-add-dst
 add-dst c = search needs
 
--- src/segment.rt:53:15
 cast-dst : tie.Need-cast-dst
 cast-dst c = search needs
 
--- src/segment.rt:53:5
 slice-write-dst : tie.Need-slice-write-dst
 slice-write-dst c = search needs
 
--- src/segment.rt:54:21
 add-t4 : tie.Need-add-t4
 add-t4 c = search needs
 
--- src/segment.rt:45:1
 same-length : tie.Need-same-length
 same-length c = search needs
 
--- src/segment.rt:45:1
 returns-2 : tie.Need-returns-2
 returns-2 c =
     let a = c .before .args in
