@@ -1,10 +1,10 @@
--- `replay_in` is safe: the body and the destination lie within the room for them. Assumes nothing.
+-- `replay_in` is safe: the bytes that are given and the destination lie within the room for them. Assumes nothing.
 use native.Mathlib.Omega.{arith}
 use Prim.Native.Nat.{_≤_}
 use lib.ListN.{length, length-take}
 use borrow.Author.Needs.{needs}
-use Rattle.vectors.proofs.plane_unpack.replay_in.Statement.{statement}
-use Rattle.vectors.proofs.plane_unpack.replay_in.Tie as tie
+use Rattle.vectors.proofs.plane.replay_in.Statement.{statement}
+use Rattle.vectors.proofs.plane.replay_in.Tie as tie
 
 read-head-requires : tie.Need-read-head-requires
 read-head-requires c κs = search needs
@@ -72,31 +72,31 @@ same-length-7 c = search needs
 returns-5 : tie.Need-returns-5
 returns-5 c = search needs
 
-sub-unpack : tie.Need-sub-unpack
-sub-unpack c = search needs
+sub-run : tie.Need-sub-run
+sub-run c = search needs
 
-part-unpack-start : tie.Need-part-unpack-start
-part-unpack-start c = search needs
+part-run-start : tie.Need-part-run-start
+part-run-start c = search needs
 
-part-unpack-end : tie.Need-part-unpack-end
-part-unpack-end c =
+part-run-end : tie.Need-part-run-end
+part-run-end c =
     let p = c .before .before .before .before .before .before .before .before .before .before .before .before .before in
     omega (arith, rw (p .count .given .1) at (p .before .before .before .before .next-bytes .ensures))
 
-sub-unpack-2 : tie.Need-sub-unpack-2
-sub-unpack-2 c = search needs
+sub-run-2 : tie.Need-sub-run-2
+sub-run-2 c = search needs
 
-part-unpack-start-2 : tie.Need-part-unpack-start-2
-part-unpack-start-2 c = search needs
+part-run-start-2 : tie.Need-part-run-start-2
+part-run-start-2 c = search needs
 
 after-fits : (p : tie.After-room) → p .room .given .0 .0 ≤ length (p .before .before .before .before .before .before .before .before .before .before .before .before .before .before .before .before .before .before .before .before .before .args .after .now)
 after-fits p = rw (p .room .given .1) at (p .before .before .before .before .next-bytes2 .ensures)
 
-part-unpack-end-2 : tie.Need-part-unpack-end-2
-part-unpack-end-2 c = omega (arith, after-fits (c .before .before .before .before .before .before .before .before .before))
+part-run-end-2 : tie.Need-part-run-end-2
+part-run-end-2 c = omega (arith, after-fits (c .before .before .before .before .before .before .before .before .before))
 
-unpack-requires : tie.Need-unpack-requires
-unpack-requires c κs =
+run-requires : tie.Need-run-requires
+run-requires c κs =
     let p = c .before .before .before .before .before .before .before .before .before .before in
     simp length-take (omega (arith, p .before .before .before .before .before .before .before .before .before .before .before .before .before .before .before .before .before .before .before .before .before .pre, after-fits p))
 
@@ -138,13 +138,13 @@ replay-in-spec =
     same-length-6
     same-length-7
     returns-5
-    sub-unpack
-    part-unpack-start
-    part-unpack-end
-    sub-unpack-2
-    part-unpack-start-2
-    part-unpack-end-2
-    unpack-requires
+    sub-run
+    part-run-start
+    part-run-end
+    sub-run-2
+    part-run-start-2
+    part-run-end-2
+    run-requires
     same-length-8
     same-length-9
     same-length-10
