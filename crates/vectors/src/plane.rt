@@ -59,11 +59,14 @@ enum Head {
 
 // Replays the case that a line tells.
 pub(crate) fn replay(kind: Kind, line: &[u8]) -> Outcome {
+    let Head::Of(case) = read_head(kind, line) else {
+        return Outcome::Malformed;
+    };
     let mut given = surrounded();
     let mut dst = surrounded();
     let mut after = surrounded();
     replay_in(
-        kind,
+        case,
         line,
         &mut given[MARGIN..MARGIN + MOST],
         &mut dst,
@@ -71,13 +74,10 @@ pub(crate) fn replay(kind: Kind, line: &[u8]) -> Outcome {
     )
 }
 
-// The same, with room for the case's bytes.
-fn replay_in(kind: Kind, line: &[u8], given: &mut [u8], dst: &mut [u8], after: &mut [u8]) -> Outcome
+// The same with the case's numbers, and with room for its bytes.
+fn replay_in(case: Case, line: &[u8], given: &mut [u8], dst: &mut [u8], after: &mut [u8]) -> Outcome
     requires { ⌜ length (now after) + 32 ≤ length (now dst) ⌝ }
 {
-    let Head::Of(case) = read_head(kind, line) else {
-        return Outcome::Malformed;
-    };
     let at = case.next;
     let Bytes::Value { count, next } = read::next_bytes(line, at, given) else {
         return Outcome::Malformed;
@@ -89,10 +89,7 @@ fn replay_in(kind: Kind, line: &[u8], given: &mut [u8], dst: &mut [u8], after: &
     else {
         return Outcome::Malformed;
     };
-    if room != case.room {
-        return Outcome::Malformed;
-    }
-    if !read::is_end(line, end) {
+    if !is_whole(case, room, line, end) {
         return Outcome::Malformed;
     }
     run(case, &given[0..count], dst, &after[0..room])
@@ -149,19 +146,36 @@ fn read_end(kind: Kind, line: &[u8], at: usize) -> Number {
     }
 }
 
-// Runs the case on a part of dst, as long as after, and compares all that there is to see.
+// Whether the line ends behind AFTER, and AFTER has as many bytes as the destination.
+fn is_whole(case: Case, room: usize, line: &[u8], end: usize) -> bool {
+    room == case.room && end == line.len()
+}
+
+// Runs the case on a part of dst, as long as after.
 fn run(case: Case, given: &[u8], dst: &mut [u8], after: &[u8]) -> Outcome
     requires { ⌜ length (now after) + 32 ≤ length (now dst) ⌝ }
 {
-    let margin = [AROUND; MARGIN];
     let end = MARGIN + after.len();
     read::fill(&mut dst[MARGIN..end], UNWRITTEN);
     let answer = called(case, given, &mut dst[MARGIN..end]);
-    let written = check::same(&dst[MARGIN..end], after);
-    let before = check::same(&dst[0..MARGIN], &margin);
-    let behind = check::same(&dst[end..end + MARGIN], &margin);
     let expected = case.answer;
-    report::compared(expected, answer, written, before && behind)
+    compared(expected, answer, dst, after)
+}
+
+// Compares all that there is to see: the answers, the part of dst, and the bytes around it.
+fn compared(expected: Answer, got: Answer, dst: &[u8], after: &[u8]) -> Outcome
+    requires { ⌜ length (now after) + 32 ≤ length (now dst) ⌝ }
+{
+    let end = MARGIN + after.len();
+    let written = check::same(&dst[MARGIN..end], after);
+    let before = is_margin(&dst[0..MARGIN]);
+    let behind = is_margin(&dst[end..end + MARGIN]);
+    report::compared(expected, got, written, before && behind)
+}
+
+// Whether a margin is as it was.
+fn is_margin(bytes: &[u8]) -> bool {
+    check::same(bytes, &[AROUND; MARGIN])
 }
 
 // Calls the entry that the case is of.

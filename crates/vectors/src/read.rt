@@ -60,11 +60,6 @@ pub(crate) fn line_end(text: &[u8], at: usize) -> usize
     text.len()
 }
 
-// Whether the place is the line's end, so that no field follows.
-pub(crate) fn is_end(line: &[u8], at: usize) -> bool {
-    at == line.len()
-}
-
 // The decimal number at `at`.
 pub(crate) fn next_number(line: &[u8], at: usize) -> Number {
     let end = field_end(line, at);
