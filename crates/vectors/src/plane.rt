@@ -23,7 +23,7 @@ ghost use mathlib.Core.Path.{_≡_};
 ghost use Prim.Native.Nat.{_+_, _≤_};
 ghost use lib.ListN.{length};
 
-// Which entry a case is of.
+// What a case calls. All cases of a file are of one kind.
 pub(crate) enum Kind {
     Unpack,
     Pack,
@@ -33,7 +33,7 @@ pub(crate) enum Kind {
 // The most bytes that are given, of a packing, and of a destination.
 const MOST: usize = 20_000;
 
-// Bytes of no meaning around what is given and the destination, so that both are lent as a part of more.
+// Bytes of no meaning around what is given, a packing and the destination, so that each is lent as a part of more.
 const MARGIN: usize = 16;
 
 const AROUND: u8 = 0xC7;
@@ -178,7 +178,7 @@ fn is_margin(bytes: &[u8]) -> bool {
     check::same(bytes, &[AROUND; MARGIN])
 }
 
-// Calls the entry that the case is of.
+// Calls what the case is for.
 fn called(case: Case, given: &[u8], dst: &mut [u8]) -> Answer {
     let kind = case.kind;
     match kind {
@@ -198,7 +198,7 @@ fn called(case: Case, given: &[u8], dst: &mut [u8]) -> Answer {
     }
 }
 
-// Packs the samples and unpacks the first bytes of what then stands there.
+// Packs the samples, and unpacks the first bytes of the slice that they were packed into.
 fn round_trip(case: Case, samples: &[u8], dst: &mut [u8]) -> Answer {
     let mut packed = surrounded();
     let trip = rle_round_trip::round_trip(

@@ -68,7 +68,11 @@ sub-run-2 c = search needs
 part-run-start-2 : tie.Need-part-run-start-2
 part-run-start-2 c = search needs
 
-after-fits : (p : tie.After-room) → p .room .given .0 .0 ≤ length (p .before .before .before .before .before .before .before .before .before .before .before .before .before .before .before .before .before .args .after .now)
+-- the function's entry, from where the last field is read
+abbrev entry : tie.After-room → tie.Start
+entry p = p .before .before .before .before .before .before .before .before .before .before .before .before .before .before .before .before .before
+
+after-fits : (p : tie.After-room) → p .room .given .0 .0 ≤ length (entry p .args .after .now)
 after-fits p = rw (p .room .given .1) at (p .before .before .before .before .next-bytes2 .ensures)
 
 part-run-end-2 : tie.Need-part-run-end-2
@@ -77,7 +81,7 @@ part-run-end-2 c = omega (arith, after-fits (c .before .before .before .before .
 run-requires : tie.Need-run-requires
 run-requires c κs =
     let p = c .before .before .before .before .before .before .before .before in
-    simp length-take (omega (arith, p .before .before .before .before .before .before .before .before .before .before .before .before .before .before .before .before .before .pre, after-fits p))
+    simp length-take (omega (arith, entry p .pre, after-fits p))
 
 same-length-6 : tie.Need-same-length-6
 same-length-6 c = search needs
