@@ -184,6 +184,13 @@ fn expand(field: &[u8], into: &mut [u8]) -> Expanded
     if check::same(field, b"-") {
         return Expanded::Count(0);
     }
+    expand_entries(field, into)
+}
+
+// The same of a field that is entries.
+fn expand_entries(field: &[u8], into: &mut [u8]) -> Expanded
+    ensures { λ r. ⌜ expandedTo r ≤ length (now (into .entry)) ⌝ }
+{
     let mut count = 0;
     let mut at = 0;
     while at < field.len() {
