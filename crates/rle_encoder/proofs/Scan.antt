@@ -6,10 +6,12 @@ use mathlib.Core.List.{List, [], _∷_, _++_}
 use Prim.Native.Nat.{ℕ, suc, _+_, _-_, _≤_, _<_}
 use native.Mathlib.Omega.{arith}
 use native.Mathlib.Numerals.{add-one}
+use borrow.Author.Tests.{le-leb, lt-leb}
 use lib.ListN.{length, getD, take, drop, replicate, length-take, length-drop, length-replicate, getD-replicate, drop-of-length-le}
-use lib.Seq.{drop-cons, drop-drop, take-add, take-suc, getD-take, getD-drop, ext-getD}
+use lib.Seq.{drop-cons, drop-drop, take-add, take-suc, take-all, getD-take, getD-drop, ext-getD}
 use Rattle.rle_format.specs.Segment.{Segment}
 use Rattle.rle_format.specs.Pack.{segmentsOf, segmentsFrom, rowSegments}
+use Rattle.rle_encoder.specs.Written.{rowEnd}
 use Rattle.rle_format.proofs.Cases.{le-or-gt}
 use Rattle.rle_format.proofs.SegmentSteps.{from-same, from-ends, from-joins, from-closed-run, from-closed-raw}
 
@@ -48,6 +50,15 @@ scanned-new codes start i o h =
       within = omega arith;
       same = λ j a b. let z : j ≡ i = omega arith in rw z;
     }
+
+-- ---- at the row's end
+
+pub run-end : (codes : List ℕ) (start last : ℕ) → 3 ≤ length codes - last - 1
+    → rowEnd codes start last ≡ segmentsOf (take (last + 1 - start) (drop start codes)) (length codes - last - 1)
+run-end codes start last h = rw (le-leb 3 (length codes - last - 1) h)
+
+pub raw-end : (codes : List ℕ) (start last : ℕ) → length codes - last - 1 < 3 → rowEnd codes start last ≡ segmentsOf (drop start codes) 0
+raw-end codes start last h = rw (lt-leb 3 (length codes - last - 1) h)
 
 -- ---- at a place of the scan
 
@@ -139,14 +150,26 @@ module _ (codes : List ℕ) (start last i : ℕ) (at : Scanned codes start last 
       ∙ rw ended)
 
   -- the row's end, after 3 or more repeats and after fewer
-  pub scan-closes-run : i ≡ length codes → 3 ≤ i - last - 1 → scan codes start last i ≡ segmentsOf (take (last + 1 - start) (drop start codes)) (i - last - 1)
+  closes-run : i ≡ length codes → 3 ≤ i - last - 1 → scan codes start last i ≡ segmentsOf (take (last + 1 - start) (drop start codes)) (i - last - 1)
   unfolding scan
-  scan-closes-run e k =
+  closes-run e k =
       rw (drop-of-length-le codes {i = i} (omega arith), ← ended)
       (from-closed-run (take (last - start) (drop start codes)) (getD codes last 0) (i - last - 1) k)
 
-  pub scan-closes-raw : i ≡ length codes → i - last - 1 < 3 → scan codes start last i ≡ segmentsOf (take (i - start) (drop start codes)) 0
+  closes-raw : i ≡ length codes → i - last - 1 < 3 → scan codes start last i ≡ segmentsOf (take (i - start) (drop start codes)) 0
   unfolding scan
-  scan-closes-raw e k =
+  closes-raw e k =
       rw (drop-of-length-le codes {i = i} (omega arith), ← joined)
       (from-closed-raw (take (last - start) (drop start codes)) (getD codes last 0) (i - last - 1) k)
+
+  pub scan-closes : i ≡ length codes → scan codes start last i ≡ rowEnd codes start last
+  scan-closes e =
+      let d = length-drop start codes in
+      ⊎-elim
+      (λ (k : 3 ≤ i - last - 1).
+      closes-run e k ∙ ap (λ (n : ℕ). segmentsOf (take (last + 1 - start) (drop start codes)) (n - last - 1)) e
+      ∙ sym (run-end codes start last (omega arith)))
+      (λ (k : i - last - 1 < 3).
+      closes-raw e k ∙ ap (λ (l : List ℕ). segmentsOf l 0) (take-all (i - start) (drop start codes) (omega arith))
+      ∙ sym (raw-end codes start last (omega arith)))
+      (le-or-gt 3 (i - last - 1))

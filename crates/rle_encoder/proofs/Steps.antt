@@ -1,5 +1,6 @@
 -- What the segment writer and the long-run writer have left after each of their steps.
 use mathlib.Core.Path.{_≡_, refl, sym, ap, _∙_}
+use mathlib.Core.Logic.{⊎-elim}
 use mathlib.Core.List.{List, [], _∷_}
 use Prim.Native.Nat.{ℕ, zero, suc, _+_, _-_, _≤_, _<_, min}
 use native.Mathlib.Omega.{arith}
@@ -7,6 +8,7 @@ use lib.ListN.{length, getD, take, drop, replicate, length-drop, length-replicat
 use lib.Seq.{drop-drop, take-all, getD-drop}
 use Rattle.rle_format.specs.Segment.{lastOf}
 use Rattle.rle_format.specs.Pack.{literal, repeat, longRun, segmentsOf}
+use Rattle.rle_format.proofs.Cases.{le-or-gt}
 use Rattle.rle_format.proofs.Segment.{last-take}
 use Rattle.rle_format.proofs.SegmentSteps.{longRun-step, longRun-few, longRun-some, segments-short, segments-step, segments-last}
 
@@ -15,14 +17,24 @@ use Rattle.rle_format.proofs.SegmentSteps.{longRun-step, longRun-few, longRun-s
 pub long-turn : (last left part : ℕ) → 16 ≤ left → part ≡ min left 47 → longRun last left ≡ repeat part ∷ longRun last (left - part)
 long-turn last left part h e = rw e (longRun-step last left h)
 
--- 1 to 3 remain: the segment writer is lent as many raw bytes
-pub few-left : (last left : ℕ) → 1 ≤ left → left < 4 → longRun last left ≡ segmentsOf (take (left - 0) (last ∷ last ∷ last ∷ [])) 0
-few-left last left h k =
-    let all : left ≡ left - 0 = omega arith in
-    longRun-few last left h k
+-- 1 to 15 remain: the segment writer is lent so many raw bytes, and has the rest as a run
+pub rest-left : (last left count : ℕ) → 1 ≤ left → left < 16 → (left < 4 → count ≡ left) × (4 ≤ left → count ≡ 1)
+    → longRun last left ≡ segmentsOf (take (count - 0) (last ∷ last ∷ last ∷ [])) (left - count)
+rest-left last left count h k is =
+    ⊎-elim
+    (λ (l : 4 ≤ left).
+    let one : count ≡ 1 = is .1 l in
+    longRun-some last left l k
+    ∙ sym (segments-short (last ∷ []) (left - 1) (omega arith) (omega arith))
+    ∙ ap (λ (n : ℕ). segmentsOf (take (n - 0) (last ∷ last ∷ last ∷ [])) (left - n)) (sym one))
+    (λ (l : left < 4).
+    let all : left ≡ count - 0 = omega (arith, is .0 l) in
+    let none : 0 ≡ left - count = omega (arith, is .0 l) in
+    longRun-few last left h l
     ∙ sym (segments-short (replicate left last) 0 (omega (arith, length-replicate left last)) (omega arith))
-    ∙ ap (λ (l : List ℕ). segmentsOf l 0) (equal left k)
-    ∙ ap (λ (n : ℕ). segmentsOf (take n (last ∷ last ∷ last ∷ [])) 0) all
+    ∙ ap (λ (t : List ℕ). segmentsOf t 0) (equal left l)
+    ∙ (λ i. segmentsOf (take (all i) (last ∷ last ∷ last ∷ [])) (none i)))
+    (le-or-gt 4 left)
   where
     equal : (n : ℕ) → n < 4 → replicate n last ≡ take n (last ∷ last ∷ last ∷ [])
     equal zero l = refl
@@ -30,10 +42,6 @@ few-left last left h k =
     equal (suc (suc zero)) l = refl
     equal (suc (suc (suc zero))) l = refl
     equal (suc (suc (suc (suc n)))) l = absurd (omega arith)
-
--- 4 to 15 remain: it is lent one, and a run one shorter
-pub some-left : (last left : ℕ) → 4 ≤ left → left < 16 → longRun last left ≡ segmentsOf (last ∷ []) (left - 1)
-some-left last left h k = longRun-some last left h k ∙ sym (segments-short (last ∷ []) (left - 1) (omega arith) (omega arith))
 
 -- ---- the segment writer, of whose raw bytes those before `start` are written
 
@@ -57,15 +65,9 @@ module _ (raw : List ℕ) (run start : ℕ) where
       let fifteen : start + 15 - start ≡ 15 = omega arith in
       rw fifteen (segments-step (drop start raw) run (omega (arith, dropped)) ∙ rw (drop-drop 15 start raw))
 
-  -- the last of them, with a long run and with a short one
-  pub segment-long : start < length raw → length raw - start ≤ 15 → 15 < run
-      → segmentsOf (drop start raw) run ≡ literal (take (length raw - start) (drop start raw)) 15 ∷ longRun (getD raw (length raw - 1) 0) (run - 15)
-  segment-long h k l =
-      let e : min run 15 ≡ 15 = omega arith in
-      rw (take-all (length raw - start) (drop start raw) (omega (arith, dropped)), ← last-of-rest h)
-      (segments-last (drop start raw) run (omega (arith, dropped)) ∙ rw e)
-
-  pub segment-short : length raw - start ≤ 15 → run ≤ 15
-      → segmentsOf (drop start raw) run ≡ literal (take (length raw - start) (drop start raw)) run ∷ []
-  segment-short h k =
-      rw (take-all (length raw - start) (drop start raw) (omega (arith, dropped))) (segments-short (drop start raw) run (omega (arith, dropped)) k)
+  -- the last of them go with at most 15 of the run
+  pub segment-last : (capped : ℕ) → start < length raw → length raw - start ≤ 15 → capped ≡ min run 15
+      → segmentsOf (drop start raw) run ≡ literal (take (length raw - start) (drop start raw)) capped ∷ longRun (getD raw (length raw - 1) 0) (run - 15)
+  segment-last capped h k e =
+      rw (take-all (length raw - start) (drop start raw) (omega (arith, dropped)), ← last-of-rest h, e)
+      (segments-last (drop start raw) run (omega (arith, dropped)))

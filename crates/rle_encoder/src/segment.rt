@@ -65,6 +65,22 @@ fn next_part(left: usize) -> usize
     }
 }
 
+// How many raw bytes the rest of a long run, 1 to 15, begins with: 1 to 3 go raw, 4 to 15 as one raw byte and a run.
+fn raw_part(left: usize) -> usize
+    requires { ⌜ 0 < left ⌝ }
+    ensures few { λ r. ⌜ (0 < r) × (r ≤ 3) × (r ≤ left) ⌝ }
+    ensures part { λ r. ⌜ (left < 4 → r ≡ left) × (4 ≤ left → r ≡ 1) ⌝ }
+{
+    if left < 4 { left } else { 1 }
+}
+
+// What goes out of a run with the raw bytes before it.
+fn run_capped(run: usize) -> usize
+    ensures { λ r. ⌜ r ≡ min run 15 ⌝ }
+{
+    if run < 15 { run } else { 15 }
+}
+
 // The segment writer. While more than 15 raw bytes wait, 15 go out with run 0; the last 1 to 15 go with the run, at most 15 of it,
 // and the long-run writer has what is left of the run.
 pub(crate) fn encode_segment(raw: &[u8], run: usize, dst: &mut [u8], at: usize) -> Packed
@@ -82,20 +98,17 @@ pub(crate) fn encode_segment(raw: &[u8], run: usize, dst: &mut [u8], at: usize) 
         to = next;
         start += 15;
     }
-    if 15 < run {
-        let last = raw[raw.len() - 1];
-        let answer = write_literal(&raw[start..], 15, dst, to);
-        let Packed::Written(next) = answer else {
-            return answer;
-        };
-        encode_long_sequence(run - 15, last, dst, next)
-    } else {
-        write_literal(&raw[start..], run, dst, to)
+    let answer = write_literal(&raw[start..], run_capped(run), dst, to);
+    let Packed::Written(next) = answer else {
+        return answer;
+    };
+    if run <= 15 {
+        return answer;
     }
+    encode_long_sequence(run - 15, raw[raw.len() - 1], dst, next)
 }
 
-// The long-run writer. While 16 or more remain, at most 47 go out in one control byte; of what remains, 1 to 3 go raw, and 4 to 15 as
-// one raw byte and a run one shorter.
+// The long-run writer. While 16 or more remain, at most 47 go out in one control byte; the segment writer has what is left.
 fn encode_long_sequence(run: usize, last: u8, dst: &mut [u8], at: usize) -> Packed
     requires { ⌜ at ≤ length (now dst) ⌝ }
     ensures answer { λ r. ⌜ toldPacked r ≡ answerAt (longRun last run) (now (dst .entry)) at ⌝ }
@@ -116,9 +129,6 @@ fn encode_long_sequence(run: usize, last: u8, dst: &mut [u8], at: usize) -> Pack
         return Packed::Written(to);
     }
     let raw = [last; 3];
-    if left < 4 {
-        encode_segment(&raw[0..left], 0, dst, to)
-    } else {
-        encode_segment(&raw[0..1], left - 1, dst, to)
-    }
+    let count = raw_part(left);
+    encode_segment(&raw[0..count], left - count, dst, to)
 }

@@ -1,5 +1,6 @@
 // A data file: loaded whole, and replayed line by line.
-use crate::plane_unpack;
+use crate::plane;
+use crate::plane::Kind;
 use crate::read;
 use crate::report;
 use crate::report::Outcome;
@@ -13,15 +14,15 @@ const MOST: usize = 1_048_576;
 // So many lines of a file that are different or malformed are told one by one. The rest is only counted.
 const TOLD: usize = 10;
 
-// Replays the file at path and prints its tally, or why there is none.
-pub(crate) fn replay(path: &[u8]) {
+// Replays the file at path, whose cases are all of one kind, and prints its tally, or why there is none.
+pub(crate) fn replay(kind: Kind, path: &[u8]) {
     let mut room = [0u8; MOST + 1];
-    replay_in(path, &mut room);
+    replay_in(kind, path, &mut room);
 }
 
 // The same, with room for the file. An array of this size is lent as an array: its type says its length, which otherwise
 // would have to be proved by counting.
-fn replay_in(path: &[u8], room: &mut [u8; MOST + 1]) {
+fn replay_in(kind: Kind, path: &[u8], room: &mut [u8; MOST + 1]) {
     let fd = os::open_read(path);
     if fd < 0 {
         report::print_error(path, b"cannot be opened");
@@ -29,23 +30,23 @@ fn replay_in(path: &[u8], room: &mut [u8; MOST + 1]) {
     }
     let size = io::read_full(fd, room);
     libc::close(fd);
-    replay_loaded(path, room, size);
+    replay_loaded(kind, path, room, size);
 }
 
 // The same of a file that was loaded: its text is the first size bytes.
-fn replay_loaded(path: &[u8], room: &[u8], size: usize)
+fn replay_loaded(kind: Kind, path: &[u8], room: &[u8], size: usize)
     requires { ⌜ size ≤ length (now room) ⌝ }
 {
     if MOST < size {
         report::print_error(path, b"is larger than 1 MiB");
         return;
     }
-    let tally = replay_lines(path, &room[0..size]);
+    let tally = replay_lines(kind, path, &room[0..size]);
     report::print_tally(path, tally);
 }
 
 // Replays each line of text. Every turn takes a line of one byte at least, so the counts stay below the text's length.
-fn replay_lines(path: &[u8], text: &[u8]) -> Tally
+fn replay_lines(kind: Kind, path: &[u8], text: &[u8]) -> Tally
     ensures { λ r. ⌜ r .equal + r .different + r .malformed ≤ length (now (text .entry)) ⌝ }
 {
     let mut tally = Tally {
@@ -57,7 +58,7 @@ fn replay_lines(path: &[u8], text: &[u8]) -> Tally
     let mut at = 0;
     while at < text.len() {
         let end = read::line_end(text, at);
-        let outcome = replay_line(&text[at..end]);
+        let outcome = replay_line(kind, &text[at..end]);
         line += 1;
         if tally.different + tally.malformed < TOLD {
             report::print_outcome(path, line, outcome);
@@ -69,11 +70,11 @@ fn replay_lines(path: &[u8], text: &[u8]) -> Tally
 }
 
 // Replays one line, given with its newline. A comment holds no case.
-fn replay_line(line: &[u8]) -> Outcome {
+fn replay_line(kind: Kind, line: &[u8]) -> Outcome {
     if 0 < line.len() {
         if line[0] == b'#' {
             return Outcome::Comment;
         }
     }
-    plane_unpack::replay(line)
+    plane::replay(kind, line)
 }

@@ -60,11 +60,6 @@ pub(crate) fn line_end(text: &[u8], at: usize) -> usize
     text.len()
 }
 
-// Whether the place is the line's end, so that no field follows.
-pub(crate) fn is_end(line: &[u8], at: usize) -> bool {
-    at == line.len()
-}
-
 // The decimal number at `at`.
 pub(crate) fn next_number(line: &[u8], at: usize) -> Number {
     let end = field_end(line, at);
@@ -189,6 +184,13 @@ fn expand(field: &[u8], into: &mut [u8]) -> Expanded
     if check::same(field, b"-") {
         return Expanded::Count(0);
     }
+    expand_entries(field, into)
+}
+
+// The same of a field that is entries.
+fn expand_entries(field: &[u8], into: &mut [u8]) -> Expanded
+    ensures { λ r. ⌜ expandedTo r ≤ length (now (into .entry)) ⌝ }
+{
     let mut count = 0;
     let mut at = 0;
     while at < field.len() {

@@ -86,14 +86,10 @@ pub(crate) fn print_tally(path: &[u8], tally: Tally)
 {
     print(path);
     print(b": ");
-    print_number(tally.equal + tally.different);
-    print(b" cases, ");
-    print_number(tally.equal);
-    print(b" equal, ");
-    print_number(tally.different);
-    print(b" different, ");
-    print_number(tally.malformed);
-    print(b" bad lines\n");
+    print_count(tally.equal + tally.different, b" cases, ");
+    print_count(tally.equal, b" equal, ");
+    print_count(tally.different, b" different, ");
+    print_count(tally.malformed, b" bad lines\n");
 }
 
 // Prints what went wrong at a line; of one that came out as stored, nothing.
@@ -144,6 +140,12 @@ fn print_answer(answer: Answer) {
         print(b"-");
     }
     print_number(answer.number);
+}
+
+// Prints a number, and the words behind it.
+fn print_count(number: usize, words: &[u8]) {
+    print_number(number);
+    print(words);
 }
 
 fn print_number(number: usize) {

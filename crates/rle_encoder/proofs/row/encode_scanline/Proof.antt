@@ -4,8 +4,9 @@ use native.Mathlib.Omega.{arith}
 use borrow.Author.Needs.{needs}
 use lib.ListN.{length, take, drop}
 use Rattle.rle_format.specs.Pack.{segmentsOf, rowSegments}
+use Rattle.rle_encoder.specs.Written.{rowEnd}
 use Rattle.rle_encoder.proofs.Head.{WriteHead, head-first, head-rest, head-turn, head-stop, head-last}
-use Rattle.rle_encoder.proofs.Scan.{Scanned, scan, scan-begins, scan-same, scan-joins, scan-ends, scan-closes-run, scan-closes-raw, scanned-begins, scanned-new, scanned-same}
+use Rattle.rle_encoder.proofs.Scan.{Scanned, scan, scan-begins, scan-same, scan-joins, scan-ends, scan-closes, scanned-begins, scanned-new, scanned-same}
 use Rattle.rle_encoder.proofs.row.encode_scanline.Statement.{statement}
 use Rattle.rle_encoder.proofs.row.encode_scanline.Tie as tie
 
@@ -119,68 +120,19 @@ loop-again-3 c =
           (scan-ends codes (l .start) (l .last) (l .i) (l .inv .0) (omega arith) (c .before .before .before .before .before .before .before .before .before .if1 .left) (omega arith)) (call .ensures) (c .before .answer .given .1),
     )
 
-sub-if3 : tie.Need-sub-if3 Inv-loop μ-loop
-sub-if3 c = search needs
-
-sub-if3-2 : tie.Need-sub-if3-2 Inv-loop μ-loop
-sub-if3-2 c = search needs
-
-sub-encode-segment-4 : tie.Need-sub-encode-segment-4 Inv-loop μ-loop
-sub-encode-segment-4 c = search needs
-
-part-encode-segment-start-2 : tie.Need-part-encode-segment-start-2 Inv-loop μ-loop
-part-encode-segment-start-2 c = search needs
-
-part-encode-segment-end-2 : tie.Need-part-encode-segment-end-2 Inv-loop μ-loop
-part-encode-segment-end-2 c = search needs
-
-encode-segment-requires-2 : tie.Need-encode-segment-requires-2 Inv-loop μ-loop
-encode-segment-requires-2 c κs = search needs
-
-add-encode-segment-2 : tie.Need-add-encode-segment-2 Inv-loop μ-loop
-add-encode-segment-2 c = search needs
-
-sub-encode-segment-5 : tie.Need-sub-encode-segment-5 Inv-loop μ-loop
-sub-encode-segment-5 c = search needs
-
-part-encode-segment-start-3 : tie.Need-part-encode-segment-start-3 Inv-loop μ-loop
-part-encode-segment-start-3 c = search needs
-
-part-encode-segment-end-3 : tie.Need-part-encode-segment-end-3 Inv-loop μ-loop
-part-encode-segment-end-3 c = search needs
-
-sub-encode-segment-6 : tie.Need-sub-encode-segment-6 Inv-loop μ-loop
-sub-encode-segment-6 c = search needs
-
-sub-encode-segment-7 : tie.Need-sub-encode-segment-7 Inv-loop μ-loop
-sub-encode-segment-7 c = search needs
-
-encode-segment-requires-3 : tie.Need-encode-segment-requires-3 Inv-loop μ-loop
-encode-segment-requires-3 c κs = search needs
+encode-row-end-requires : tie.Need-encode-row-end-requires Inv-loop μ-loop
+encode-row-end-requires c κs = search needs
 
 same-length-2 : tie.Need-same-length-2 Inv-loop μ-loop
 same-length-2 c = search needs
 
 returns-2 : tie.Need-returns-2 Inv-loop μ-loop
 returns-2 c =
-    let l = c .before .before .before .before .before .before .before .loop in
-    let codes = c .before .before .before .before .before .before .before .before .before .before .args .codes .now in
-    let call = c .before .before .encode-segment2 in
-    head-last (head-rest (l .inv .1) (segmentsOf (take (l .i - l .start) (drop (l .start) codes)) 0)
-    (scan-closes-raw codes (l .start) (l .last) (l .i) (l .inv .0) (omega arith) (omega arith)))
-    (call .last .1 .1 .0) (call .result) (call .ensures)
-
-same-length-3 : tie.Need-same-length-3 Inv-loop μ-loop
-same-length-3 c = search needs
-
-returns-3 : tie.Need-returns-3 Inv-loop μ-loop
-returns-3 c =
-    let l = c .before .before .before .before .before .before .before .loop in
-    let codes = c .before .before .before .before .before .before .before .before .before .before .args .codes .now in
-    let call = c .before .before .encode-segment3 in
-    head-last (head-rest (l .inv .1) (segmentsOf (take (l .last + 1 - l .start) (drop (l .start) codes)) (l .i - l .last - 1))
-    (scan-closes-run codes (l .start) (l .last) (l .i) (l .inv .0) (omega arith) (omega arith)))
-    (call .last .1 .1 .0) (call .result) (call .ensures)
+    let l = c .before .before .before .before .before .loop in
+    let codes = c .before .before .before .before .before .before .before .before .args .codes .now in
+    let call = c .before .before .encode-row-end in
+    head-last (head-rest (l .inv .1) (rowEnd codes (l .start) (l .last)) (scan-closes codes (l .start) (l .last) (l .i) (l .inv .0) (omega arith)))
+    (call .last .1 .1 .1 .0) (call .result) (call .ensures)
 
 pub encode-scanline-spec : {M : Type 1} → statement M
 encode-scanline-spec =
@@ -213,20 +165,6 @@ encode-scanline-spec =
     add-i-3
     loop-less-3
     loop-again-3
-    sub-if3
-    sub-if3-2
-    sub-encode-segment-4
-    part-encode-segment-start-2
-    part-encode-segment-end-2
-    encode-segment-requires-2
-    add-encode-segment-2
-    sub-encode-segment-5
-    part-encode-segment-start-3
-    part-encode-segment-end-3
-    sub-encode-segment-6
-    sub-encode-segment-7
-    encode-segment-requires-3
+    encode-row-end-requires
     same-length-2
-    returns-2
-    same-length-3
-    returns-3)
+    returns-2)

@@ -7,7 +7,7 @@ use lib.ListN.{length, getD, take, drop}
 use Rattle.rle_format.specs.Pack.{literal, repeat, segmentsOf, longRun}
 use Rattle.rle_format.proofs.SegmentSteps.{longRun-none}
 use Rattle.rle_encoder.proofs.Head.{WriteHead, head-first, head-rest, head-turn, head-stop, head-last, head-done}
-use Rattle.rle_encoder.proofs.Steps.{long-turn, few-left, some-left, segment-turn, segment-long, segment-short}
+use Rattle.rle_encoder.proofs.Steps.{long-turn, rest-left, segment-turn, segment-last}
 use Prim.Native.Nat.{ℕ, _+_, _-_, _≤_, _<_}
 use borrow.Fn.Kinds.{In}
 use borrow.Fn.PlainCycle.{Measures, is, falls, and}
@@ -18,6 +18,8 @@ use Rattle.rle_encoder.proofs.segment.encode_segment.Reads as encode-se
 use Rattle.rle_encoder.proofs.segment.encode_segment.Kinds as encode-segment-kinds
 use Rattle.rle_encoder.proofs.segment.+encode_long_sequence+encode_segment.Lts-encode_segment as encode-segment-lts
 use Rattle.rle_encoder.proofs.segment.next_part.Reads as next-part-reads
+use Rattle.rle_encoder.proofs.segment.raw_part.Reads as raw-part-reads
+use Rattle.rle_encoder.proofs.segment.run_capped.Reads as run-capped-reads
 use Rattle.rle_encoder.proofs.segment.write_literal.Reads as write-literal-reads
 use Rattle.rle_encoder.proofs.segment.write_repeat.Reads as write-repeat-reads
 use Rattle.rle_encoder.proofs.segment.+encode_long_sequence+encode_segment.{statement}
@@ -63,10 +65,10 @@ encode-segment-below t =
 
 -- what each may use of the functions that it calls: their contracts, of the other one for a smaller run
 abbrev long-claims : ℕ → encode-long-sequence-lts.Claims
-long-claims t = (next-part-reads.Asked, next-part-reads.Learnt, write-repeat-reads.Asked, write-repeat-reads.Learnt, encode-segment-below t, encode-segment.Post)
+long-claims t = (next-part-reads.Asked, next-part-reads.Learnt, write-repeat-reads.Asked, write-repeat-reads.Learnt, raw-part-reads.Asked, raw-part-reads.Learnt, encode-segment-below t, encode-segment.Post)
 
 abbrev segment-claims : ℕ → encode-segment-lts.Claims
-segment-claims t = (write-literal-reads.Asked, write-literal-reads.Learnt, encode-long-sequence-below t, encode-long-sequence.Post)
+segment-claims t = (write-literal-reads.Asked, write-literal-reads.Learnt, run-capped-reads.Asked, run-capped-reads.Learnt, encode-long-sequence-below t, encode-long-sequence.Post)
 
 abbrev encode-long-sequence-Inv-loop : encode-long-sequence-lts.InvT-loop
 encode-long-sequence-Inv-loop run last dst₀ at left₀ to₀ dst left to = (left ≤ run) × WriteHead (longRun last run) (longRun last left) dst₀ dst at to
@@ -124,6 +126,9 @@ encode-long-sequence-same-length-2 t c = search needs
 encode-long-sequence-returns-2 : (t : ℕ) → encode-long-sequence-lts.Need-returns-2 (long-claims t) (encode-long-sequence-at t) encode-long-sequence.Post encode-long-sequence-Inv-loop encode-long-sequence-μ-loop
 encode-long-sequence-returns-2 t c = let l = c .before .before .loop in head-done (l .inv .1) (longRun-none (c .before .before .before .before .args .last) (l .left) (omega arith))
 
+encode-long-sequence-raw-part-requires : (t : ℕ) → encode-long-sequence-lts.Need-raw-part-requires (long-claims t) (encode-long-sequence-at t) encode-long-sequence.Post encode-long-sequence-Inv-loop encode-long-sequence-μ-loop
+encode-long-sequence-raw-part-requires t c κs = search needs
+
 encode-long-sequence-sub-encode-segment : (t : ℕ) → encode-long-sequence-lts.Need-sub-encode-segment (long-claims t) (encode-long-sequence-at t) encode-long-sequence.Post encode-long-sequence-Inv-loop encode-long-sequence-μ-loop
 encode-long-sequence-sub-encode-segment t c = search needs
 
@@ -133,23 +138,11 @@ encode-long-sequence-part-encode-segment-start t c = search needs
 encode-long-sequence-part-encode-segment-end : (t : ℕ) → encode-long-sequence-lts.Need-part-encode-segment-end (long-claims t) (encode-long-sequence-at t) encode-long-sequence.Post encode-long-sequence-Inv-loop encode-long-sequence-μ-loop
 encode-long-sequence-part-encode-segment-end t c = search needs
 
-encode-long-sequence-encode-segment-requires : (t : ℕ) → encode-long-sequence-lts.Need-encode-segment-requires (long-claims t) (encode-long-sequence-at t) encode-long-sequence.Post encode-long-sequence-Inv-loop encode-long-sequence-μ-loop
-encode-long-sequence-encode-segment-requires t c κs = search needs
-
 encode-long-sequence-sub-encode-segment-2 : (t : ℕ) → encode-long-sequence-lts.Need-sub-encode-segment-2 (long-claims t) (encode-long-sequence-at t) encode-long-sequence.Post encode-long-sequence-Inv-loop encode-long-sequence-μ-loop
 encode-long-sequence-sub-encode-segment-2 t c = search needs
 
-encode-long-sequence-part-encode-segment-start-2 : (t : ℕ) → encode-long-sequence-lts.Need-part-encode-segment-start-2 (long-claims t) (encode-long-sequence-at t) encode-long-sequence.Post encode-long-sequence-Inv-loop encode-long-sequence-μ-loop
-encode-long-sequence-part-encode-segment-start-2 t c = search needs
-
-encode-long-sequence-part-encode-segment-end-2 : (t : ℕ) → encode-long-sequence-lts.Need-part-encode-segment-end-2 (long-claims t) (encode-long-sequence-at t) encode-long-sequence.Post encode-long-sequence-Inv-loop encode-long-sequence-μ-loop
-encode-long-sequence-part-encode-segment-end-2 t c = search needs
-
-encode-long-sequence-sub-encode-segment-3 : (t : ℕ) → encode-long-sequence-lts.Need-sub-encode-segment-3 (long-claims t) (encode-long-sequence-at t) encode-long-sequence.Post encode-long-sequence-Inv-loop encode-long-sequence-μ-loop
-encode-long-sequence-sub-encode-segment-3 t c = search needs
-
-encode-long-sequence-encode-segment-requires-2 : (t : ℕ) → encode-long-sequence-lts.Need-encode-segment-requires-2 (long-claims t) (encode-long-sequence-at t) encode-long-sequence.Post encode-long-sequence-Inv-loop encode-long-sequence-μ-loop
-encode-long-sequence-encode-segment-requires-2 t c κs = search needs
+encode-long-sequence-encode-segment-requires : (t : ℕ) → encode-long-sequence-lts.Need-encode-segment-requires (long-claims t) (encode-long-sequence-at t) encode-long-sequence.Post encode-long-sequence-Inv-loop encode-long-sequence-μ-loop
+encode-long-sequence-encode-segment-requires t c κs = search needs
 
 encode-long-sequence-same-length-3 : (t : ℕ) → encode-long-sequence-lts.Need-same-length-3 (long-claims t) (encode-long-sequence-at t) encode-long-sequence.Post encode-long-sequence-Inv-loop encode-long-sequence-μ-loop
 encode-long-sequence-same-length-3 t c = search needs
@@ -158,19 +151,9 @@ encode-long-sequence-returns-3 : (t : ℕ) → encode-long-sequence-lts.Need-ret
 encode-long-sequence-returns-3 t c =
     let l = c .before .before .before .before .before .before .before .before .before .loop in
     let last = c .before .before .before .before .before .before .before .before .before .before .before .args .last in
+    let count = c .before .before .before .before .before .before .raw-part in
     let call = c .before .before .encode-segment in
-    head-last (head-rest (l .inv .1) (segmentsOf (take (l .left - 0) (last ∷ last ∷ last ∷ [])) 0) (few-left last (l .left) (omega arith) (omega arith)))
-    (call .last .1 .1 .0) (call .result) (call .ensures)
-
-encode-long-sequence-same-length-4 : (t : ℕ) → encode-long-sequence-lts.Need-same-length-4 (long-claims t) (encode-long-sequence-at t) encode-long-sequence.Post encode-long-sequence-Inv-loop encode-long-sequence-μ-loop
-encode-long-sequence-same-length-4 t c = search needs
-
-encode-long-sequence-returns-4 : (t : ℕ) → encode-long-sequence-lts.Need-returns-4 (long-claims t) (encode-long-sequence-at t) encode-long-sequence.Post encode-long-sequence-Inv-loop encode-long-sequence-μ-loop
-encode-long-sequence-returns-4 t c =
-    let l = c .before .before .before .before .before .before .before .before .before .loop in
-    let last = c .before .before .before .before .before .before .before .before .before .before .before .args .last in
-    let call = c .before .before .encode-segment2 in
-    head-last (head-rest (l .inv .1) (segmentsOf (last ∷ []) (l .left - 1)) (some-left last (l .left) (omega arith) (omega arith)))
+    head-last (head-rest (l .inv .1) (segmentsOf (take (count .result - 0) (last ∷ last ∷ last ∷ [])) (l .left - count .result)) (rest-left last (l .left) (count .result) (omega arith) (omega arith) (count .ensures .1)))
     (call .last .1 .1 .0) (call .result) (call .ensures)
 
 abbrev encode-segment-Inv-loop : encode-segment-lts.InvT-loop
@@ -233,12 +216,6 @@ encode-segment-loop-again t c =
           (put .last .1 .1 .0) (put .result) (c .before .answer .given .0 .0) (segment-turn (a .raw .now) (a .run) (l .start) (omega arith)) (put .ensures) (c .before .answer .given .1),
     )
 
-encode-segment-sub-last : (t : ℕ) → encode-segment-lts.Need-sub-last (segment-claims t) (encode-segment-at t) encode-segment.Post encode-segment-Inv-loop encode-segment-μ-loop
-encode-segment-sub-last t c = search needs
-
-encode-segment-shared-slice-read-last : (t : ℕ) → encode-segment-lts.Need-shared-slice-read-last (segment-claims t) (encode-segment-at t) encode-segment.Post encode-segment-Inv-loop encode-segment-μ-loop
-encode-segment-shared-slice-read-last t c = search needs
-
 encode-segment-sub-write-literal-2 : (t : ℕ) → encode-segment-lts.Need-sub-write-literal-2 (segment-claims t) (encode-segment-at t) encode-segment.Post encode-segment-Inv-loop encode-segment-μ-loop
 encode-segment-sub-write-literal-2 t c = search needs
 
@@ -247,6 +224,9 @@ encode-segment-part-write-literal-start-2 t c = search needs
 
 encode-segment-part-write-literal-end-2 : (t : ℕ) → encode-segment-lts.Need-part-write-literal-end-2 (segment-claims t) (encode-segment-at t) encode-segment.Post encode-segment-Inv-loop encode-segment-μ-loop
 encode-segment-part-write-literal-end-2 t c = search needs
+
+encode-segment-run-capped-requires : (t : ℕ) → encode-segment-lts.Need-run-capped-requires (segment-claims t) (encode-segment-at t) encode-segment.Post encode-segment-Inv-loop encode-segment-μ-loop
+encode-segment-run-capped-requires t c κs = search needs
 
 encode-segment-write-literal-requires-2 : (t : ℕ) → encode-segment-lts.Need-write-literal-requires-2 (segment-claims t) (encode-segment-at t) encode-segment.Post encode-segment-Inv-loop encode-segment-μ-loop
 encode-segment-write-literal-requires-2 t c κs = search needs
@@ -262,63 +242,57 @@ encode-segment-same-length-2 t c = search needs
 
 encode-segment-returns-2 : (t : ℕ) → encode-segment-lts.Need-returns-2 (segment-claims t) (encode-segment-at t) encode-segment.Post encode-segment-Inv-loop encode-segment-μ-loop
 encode-segment-returns-2 t c =
-    let l = c .before .before .before .before .before .before .before .before .before .before .loop in
-    let a = c .before .before .before .before .before .before .before .before .before .before .before .before .before .args in
+    let l = c .before .before .before .before .before .before .before .before .before .loop in
+    let a = c .before .before .before .before .before .before .before .before .before .before .before .before .args in
     let put = c .before .before .before .before .write-literal2 in
-    head-stop (l .inv .1) (literal (take (length (a .raw .now) - l .start) (drop (l .start) (a .raw .now))) 15 ∷ [])
-    (longRun (getD (a .raw .now) (length (a .raw .now) - 1) 0) (a .run - 15)) (put .last .1 .1 .0) (put .result) (c .enum-told2 .given .0 .0)
-    (segment-long (a .raw .now) (a .run) (l .start) (l .inv .0) (omega arith) (omega arith)) (put .ensures) (c .enum-told2 .given .1)
-
-encode-segment-sub-encode-long-sequence : (t : ℕ) → encode-segment-lts.Need-sub-encode-long-sequence (segment-claims t) (encode-segment-at t) encode-segment.Post encode-segment-Inv-loop encode-segment-μ-loop
-encode-segment-sub-encode-long-sequence t c = search needs
-
-encode-segment-encode-long-sequence-requires : (t : ℕ) → encode-segment-lts.Need-encode-long-sequence-requires (segment-claims t) (encode-segment-at t) encode-segment.Post encode-segment-Inv-loop encode-segment-μ-loop
-encode-segment-encode-long-sequence-requires t c κs =
-    let l = c .before .before .before .before .before .before .before .before .before .before .before .before .loop in
-    let a = c .before .before .before .before .before .before .before .before .before .before .before .before .before .before .before .args in
-    let put = c .before .before .before .before .before .before .write-literal2 in
-    let turn = head-turn (l .inv .1) (literal (take (length (a .raw .now) - l .start) (drop (l .start) (a .raw .now))) 15 ∷ [])
-    (longRun (getD (a .raw .now) (length (a .raw .now) - 1) 0) (a .run - 15)) (put .last .1 .1 .0) (put .result) (c .before .before .answer2 .given .0 .0)
-    (segment-long (a .raw .now) (a .run) (l .start) (l .inv .0) (omega arith) (omega arith)) (put .ensures) (c .before .before .answer2 .given .1) in
-    (omega arith, turn .within)
-
-encode-segment-sub-write-literal-3 : (t : ℕ) → encode-segment-lts.Need-sub-write-literal-3 (segment-claims t) (encode-segment-at t) encode-segment.Post encode-segment-Inv-loop encode-segment-μ-loop
-encode-segment-sub-write-literal-3 t c = search needs
-
-encode-segment-part-write-literal-start-3 : (t : ℕ) → encode-segment-lts.Need-part-write-literal-start-3 (segment-claims t) (encode-segment-at t) encode-segment.Post encode-segment-Inv-loop encode-segment-μ-loop
-encode-segment-part-write-literal-start-3 t c = search needs
-
-encode-segment-part-write-literal-end-3 : (t : ℕ) → encode-segment-lts.Need-part-write-literal-end-3 (segment-claims t) (encode-segment-at t) encode-segment.Post encode-segment-Inv-loop encode-segment-μ-loop
-encode-segment-part-write-literal-end-3 t c = search needs
-
-encode-segment-write-literal-requires-3 : (t : ℕ) → encode-segment-lts.Need-write-literal-requires-3 (segment-claims t) (encode-segment-at t) encode-segment.Post encode-segment-Inv-loop encode-segment-μ-loop
-encode-segment-write-literal-requires-3 t c κs = search needs
+    let capped = c .before .before .before .before .before .before .run-capped in
+    head-stop (l .inv .1) (literal (take (length (a .raw .now) - l .start) (drop (l .start) (a .raw .now))) (capped .result) ∷ []) (longRun (getD (a .raw .now) (length (a .raw .now) - 1) 0) (a .run - 15)) (put .last .1 .1 .0) (put .result) (c .enum-told2 .given .0 .0) (segment-last (a .raw .now) (a .run) (l .start) (capped .result) (l .inv .0) (omega arith) (capped .ensures)) (put .ensures) (c .enum-told2 .given .1)
 
 encode-segment-same-length-3 : (t : ℕ) → encode-segment-lts.Need-same-length-3 (segment-claims t) (encode-segment-at t) encode-segment.Post encode-segment-Inv-loop encode-segment-μ-loop
 encode-segment-same-length-3 t c = search needs
 
 encode-segment-returns-3 : (t : ℕ) → encode-segment-lts.Need-returns-3 (segment-claims t) (encode-segment-at t) encode-segment.Post encode-segment-Inv-loop encode-segment-μ-loop
 encode-segment-returns-3 t c =
-    let l = c .before .before .before .before .before .before .before .before .before .before .before .before .before .before .before .loop in
-    let a = c .before .before .before .before .before .before .before .before .before .before .before .before .before .before .before .before .before .before .args in
-    let put = c .before .before .before .before .before .before .before .before .before .write-literal2 in
-    let turn = head-turn (l .inv .1) (literal (take (length (a .raw .now) - l .start) (drop (l .start) (a .raw .now))) 15 ∷ [])
-    (longRun (getD (a .raw .now) (length (a .raw .now) - 1) 0) (a .run - 15)) (put .last .1 .1 .0) (put .result) (c .before .before .before .before .before .answer2 .given .0 .0)
-    (segment-long (a .raw .now) (a .run) (l .start) (l .inv .0) (omega arith) (omega arith)) (put .ensures) (c .before .before .before .before .before .answer2 .given .1) in
-    let call = c .before .before .encode-long-sequence in
-    head-last turn (call .last .1 .1 .0) (call .result) (call .ensures)
+    let l = c .before .before .before .before .before .before .before .before .before .before .before .loop in
+    let a = c .before .before .before .before .before .before .before .before .before .before .before .before .before .before .args in
+    let put = c .before .before .before .before .before .before .write-literal2 in
+    let capped = c .before .before .before .before .before .before .before .before .run-capped in
+    let turn = head-turn (l .inv .1) (literal (take (length (a .raw .now) - l .start) (drop (l .start) (a .raw .now))) (capped .result) ∷ []) (longRun (getD (a .raw .now) (length (a .raw .now) - 1) 0) (a .run - 15))
+    (put .last .1 .1 .0) (put .result) (c .before .before .answer2 .given .0 .0) (segment-last (a .raw .now) (a .run) (l .start) (capped .result) (l .inv .0) (omega arith) (capped .ensures)) (put .ensures) (c .before .before .answer2 .given .1) in
+    head-done turn (longRun-none (getD (a .raw .now) (length (a .raw .now) - 1) 0) (a .run - 15) (omega arith))
+
+encode-segment-sub-encode-long-sequence : (t : ℕ) → encode-segment-lts.Need-sub-encode-long-sequence (segment-claims t) (encode-segment-at t) encode-segment.Post encode-segment-Inv-loop encode-segment-μ-loop
+encode-segment-sub-encode-long-sequence t c = search needs
+
+encode-segment-sub-encode-long-sequence-2 : (t : ℕ) → encode-segment-lts.Need-sub-encode-long-sequence-2 (segment-claims t) (encode-segment-at t) encode-segment.Post encode-segment-Inv-loop encode-segment-μ-loop
+encode-segment-sub-encode-long-sequence-2 t c = search needs
+
+encode-segment-shared-slice-read-encode-long-sequence : (t : ℕ) → encode-segment-lts.Need-shared-slice-read-encode-long-sequence (segment-claims t) (encode-segment-at t) encode-segment.Post encode-segment-Inv-loop encode-segment-μ-loop
+encode-segment-shared-slice-read-encode-long-sequence t c = search needs
+
+encode-segment-encode-long-sequence-requires : (t : ℕ) → encode-segment-lts.Need-encode-long-sequence-requires (segment-claims t) (encode-segment-at t) encode-segment.Post encode-segment-Inv-loop encode-segment-μ-loop
+encode-segment-encode-long-sequence-requires t c κs =
+    let l = c .before .before .before .before .before .before .before .before .before .before .before .before .before .loop in
+    let a = c .before .before .before .before .before .before .before .before .before .before .before .before .before .before .before .before .args in
+    let put = c .before .before .before .before .before .before .before .before .write-literal2 in
+    let capped = c .before .before .before .before .before .before .before .before .before .before .run-capped in
+    let turn = head-turn (l .inv .1) (literal (take (length (a .raw .now) - l .start) (drop (l .start) (a .raw .now))) (capped .result) ∷ []) (longRun (getD (a .raw .now) (length (a .raw .now) - 1) 0) (a .run - 15))
+    (put .last .1 .1 .0) (put .result) (c .before .before .before .before .answer2 .given .0 .0) (segment-last (a .raw .now) (a .run) (l .start) (capped .result) (l .inv .0) (omega arith) (capped .ensures)) (put .ensures) (c .before .before .before .before .answer2 .given .1) in
+    (omega arith, turn .within)
 
 encode-segment-same-length-4 : (t : ℕ) → encode-segment-lts.Need-same-length-4 (segment-claims t) (encode-segment-at t) encode-segment.Post encode-segment-Inv-loop encode-segment-μ-loop
 encode-segment-same-length-4 t c = search needs
 
 encode-segment-returns-4 : (t : ℕ) → encode-segment-lts.Need-returns-4 (segment-claims t) (encode-segment-at t) encode-segment.Post encode-segment-Inv-loop encode-segment-μ-loop
 encode-segment-returns-4 t c =
-    let l = c .before .before .before .before .before .before .before .loop in
-    let a = c .before .before .before .before .before .before .before .before .before .before .args in
-    let put = c .before .before .write-literal3 in
-    head-last (head-rest (l .inv .1) (literal (take (length (a .raw .now) - l .start) (drop (l .start) (a .raw .now))) (a .run) ∷ [])
-    (segment-short (a .raw .now) (a .run) (l .start) (omega arith) (omega arith)))
-    (put .last .1 .1 .0) (put .result) (put .ensures)
+    let l = c .before .before .before .before .before .before .before .before .before .before .before .before .before .before .before .before .loop in
+    let a = c .before .before .before .before .before .before .before .before .before .before .before .before .before .before .before .before .before .before .before .args in
+    let put = c .before .before .before .before .before .before .before .before .before .before .before .write-literal2 in
+    let capped = c .before .before .before .before .before .before .before .before .before .before .before .before .before .run-capped in
+    let turn = head-turn (l .inv .1) (literal (take (length (a .raw .now) - l .start) (drop (l .start) (a .raw .now))) (capped .result) ∷ []) (longRun (getD (a .raw .now) (length (a .raw .now) - 1) 0) (a .run - 15))
+    (put .last .1 .1 .0) (put .result) (c .before .before .before .before .before .before .before .answer2 .given .0 .0) (segment-last (a .raw .now) (a .run) (l .start) (capped .result) (l .inv .0) (omega arith) (capped .ensures)) (put .ensures) (c .before .before .before .before .before .before .before .answer2 .given .1) in
+    let call = c .before .before .encode-long-sequence in
+    head-last turn (call .last .1 .1 .0) (call .result) (call .ensures)
 
 pub +encode-long-sequence+encode-segment-spec : {M : Type 1} → statement M
 +encode-long-sequence+encode-segment-spec =
@@ -339,19 +313,14 @@ pub +encode-long-sequence+encode-segment-spec : {M : Type 1} → statement M
     (encode-long-sequence-loop-again t)
     (encode-long-sequence-same-length-2 t)
     (encode-long-sequence-returns-2 t)
+    (encode-long-sequence-raw-part-requires t)
     (encode-long-sequence-sub-encode-segment t)
     (encode-long-sequence-part-encode-segment-start t)
     (encode-long-sequence-part-encode-segment-end t)
-    (encode-long-sequence-encode-segment-requires t)
     (encode-long-sequence-sub-encode-segment-2 t)
-    (encode-long-sequence-part-encode-segment-start-2 t)
-    (encode-long-sequence-part-encode-segment-end-2 t)
-    (encode-long-sequence-sub-encode-segment-3 t)
-    (encode-long-sequence-encode-segment-requires-2 t)
+    (encode-long-sequence-encode-segment-requires t)
     (encode-long-sequence-same-length-3 t)
-    (encode-long-sequence-returns-3 t)
-    (encode-long-sequence-same-length-4 t)
-    (encode-long-sequence-returns-4 t))
+    (encode-long-sequence-returns-3 t))
     λ t. encode-segment-lts.spec (segment-claims t)
     (encode-segment-at t)
     encode-segment.Post
@@ -371,23 +340,20 @@ pub +encode-long-sequence+encode-segment-spec : {M : Type 1} → statement M
     (encode-segment-add-start t)
     (encode-segment-loop-less t)
     (encode-segment-loop-again t)
-    (encode-segment-sub-last t)
-    (encode-segment-shared-slice-read-last t)
     (encode-segment-sub-write-literal-2 t)
     (encode-segment-part-write-literal-start-2 t)
     (encode-segment-part-write-literal-end-2 t)
+    (encode-segment-run-capped-requires t)
     (encode-segment-write-literal-requires-2 t)
     (encode-segment-enum-known-answer-2 t)
     (encode-segment-enum-told-2 t)
     (encode-segment-same-length-2 t)
     (encode-segment-returns-2 t)
-    (encode-segment-sub-encode-long-sequence t)
-    (encode-segment-encode-long-sequence-requires t)
-    (encode-segment-sub-write-literal-3 t)
-    (encode-segment-part-write-literal-start-3 t)
-    (encode-segment-part-write-literal-end-3 t)
-    (encode-segment-write-literal-requires-3 t)
     (encode-segment-same-length-3 t)
     (encode-segment-returns-3 t)
+    (encode-segment-sub-encode-long-sequence t)
+    (encode-segment-sub-encode-long-sequence-2 t)
+    (encode-segment-shared-slice-read-encode-long-sequence t)
+    (encode-segment-encode-long-sequence-requires t)
     (encode-segment-same-length-4 t)
     (encode-segment-returns-4 t)

@@ -6,10 +6,10 @@ use Rattle.vectors.proofs.file.replay_lines.Statement.{statement}
 use Rattle.vectors.proofs.file.replay_lines.Tie as tie
 
 abbrev Inv-loop : tie.InvT-loop
-Inv-loop path text tally₀ line₀ at₀ tally line at = (at ≤ length text) × (line ≤ at) × (tally .equal + tally .different + tally .malformed ≤ at)
+Inv-loop kind path text tally₀ line₀ at₀ tally line at = (at ≤ length text) × (line ≤ at) × (tally .equal + tally .different + tally .malformed ≤ at)
 
 abbrev μ-loop : tie.MeasureT-loop
-μ-loop path text tally₀ line₀ at₀ tally line at = length text - at
+μ-loop kind path text tally₀ line₀ at₀ tally line at = length text - at
 
 loop-holds : tie.Need-loop-holds Inv-loop μ-loop
 loop-holds c = search needs

@@ -1,28 +1,16 @@
--- `expand` is safe and ends: each entry takes a byte of the field at least, and what is written stays within `into`. Assumes nothing.
+-- `expand_entries` is safe and ends: each entry takes a byte of the field at least, and what is written stays within `into`. Assumes nothing.
 use Prim.Native.Nat.{_≤_, _-_}
 use borrow.Author.Needs.{needs}
 use mathlib.Core.Path.{_≡_}
 use lib.ListN.{length}
-use Rattle.vectors.proofs.read.expand.Statement.{statement}
-use Rattle.vectors.proofs.read.expand.Tie as tie
+use Rattle.vectors.proofs.read.expand_entries.Statement.{statement}
+use Rattle.vectors.proofs.read.expand_entries.Tie as tie
 
 abbrev Inv-loop : tie.InvT-loop
 Inv-loop field into₀ count₀ at₀ into count at = (count ≤ length into) × (length into ≡ length into₀)
 
 abbrev μ-loop : tie.MeasureT-loop
 μ-loop field into₀ count₀ at₀ into count at = length field - at
-
-returns : tie.Need-returns Inv-loop μ-loop
-returns c = search needs
-
-slice-aggregate-same : tie.Need-slice-aggregate-same Inv-loop μ-loop
-slice-aggregate-same c = search needs
-
-same-requires : tie.Need-same-requires Inv-loop μ-loop
-same-requires c κs = search needs
-
-returns-2 : tie.Need-returns-2 Inv-loop μ-loop
-returns-2 c = search needs
 
 loop-holds : tie.Need-loop-holds Inv-loop μ-loop
 loop-holds c = search needs
@@ -33,17 +21,17 @@ next-entry-requires c κs = search needs
 same-length : tie.Need-same-length Inv-loop μ-loop
 same-length c = search needs
 
-returns-3 : tie.Need-returns-3 Inv-loop μ-loop
-returns-3 c = search needs
+returns : tie.Need-returns Inv-loop μ-loop
+returns c = search needs
 
-sub-if4 : tie.Need-sub-if4 Inv-loop μ-loop
-sub-if4 c = search needs
+sub-if2 : tie.Need-sub-if2 Inv-loop μ-loop
+sub-if2 c = search needs
 
 same-length-2 : tie.Need-same-length-2 Inv-loop μ-loop
 same-length-2 c = search needs
 
-returns-4 : tie.Need-returns-4 Inv-loop μ-loop
-returns-4 c = search needs
+returns-2 : tie.Need-returns-2 Inv-loop μ-loop
+returns-2 c = search needs
 
 add-end : tie.Need-add-end Inv-loop μ-loop
 add-end c = search needs
@@ -69,26 +57,22 @@ loop-again c = search needs
 same-length-3 : tie.Need-same-length-3 Inv-loop μ-loop
 same-length-3 c = search needs
 
-returns-5 : tie.Need-returns-5 Inv-loop μ-loop
-returns-5 c = search needs
+returns-3 : tie.Need-returns-3 Inv-loop μ-loop
+returns-3 c = search needs
 
-pub expand-spec : {M : Type 1} → statement M
-expand-spec =
+pub expand-entries-spec : {M : Type 1} → statement M
+expand-entries-spec =
     tie.close
     (tie.spec
     Inv-loop
     μ-loop
-    returns
-    slice-aggregate-same
-    same-requires
-    returns-2
     loop-holds
     next-entry-requires
     same-length
-    returns-3
-    sub-if4
+    returns
+    sub-if2
     same-length-2
-    returns-4
+    returns-2
     add-end
     sub-fill
     part-fill-start
@@ -97,4 +81,4 @@ expand-spec =
     loop-less
     loop-again
     same-length-3
-    returns-5)
+    returns-3)
