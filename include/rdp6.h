@@ -55,6 +55,19 @@ enum rdp6_refusal {
  */
 int64_t rdp6_decompress_8bpp_plane(const uint8_t *src, size_t src_len, uint8_t *dst, size_t dst_len, size_t width, size_t height);
 
+/*
+ * Packs a plane of width * height samples, the first bytes of src row by row from the top, as an RLE plane into the first bytes of dst,
+ * and answers how many bytes were written. What follows the samples in src is not read, and the bytes of dst behind the packing are
+ * untouched. The packing has at most two bytes a sample, so that a dst of 2 * width * height bytes never gets refusal 12.
+ *
+ * Refusals, tested in this order:
+ *    1  width or height is 0          }
+ *    2  width or height is over 8192  }  dst is unchanged
+ *   11  src_len < width * height      }
+ *   12  the next segment does not fit into dst: the segments before it are written whole, the rest of dst is untouched
+ */
+int64_t rdp6_compress_8bpp_plane(const uint8_t *src, size_t src_len, uint8_t *dst, size_t dst_len, size_t width, size_t height);
+
 #ifdef __cplusplus
 }
 #endif

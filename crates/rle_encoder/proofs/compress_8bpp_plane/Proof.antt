@@ -22,10 +22,14 @@ returns-2 : tie.Need-returns-2
 returns-2 c = none-written _ _ _ (pack-no-height _ _ _ _ (c .before .if1 .left) (c .if2 .taken))
 
 returns-3 : tie.Need-returns-3
-returns-3 c = none-written _ _ _ (pack-wide _ _ _ _ (c .before .before .if1 .left) (c .before .if2 .left) (c .if3 .taken))
+returns-3 c =
+    let a = c .before .before .before .before .before .args in
+    none-written _ _ _ (pack-wide (a .width) (a .height) (length (a .dst .now)) (a .src .now) (c .before .before .if1 .left) (c .before .if2 .left) (omega arith))
 
 returns-4 : tie.Need-returns-4
-returns-4 c = none-written _ _ _ (pack-high _ _ _ _ (c .before .before .before .if1 .left) (c .before .before .if2 .left) (c .before .if3 .left) (c .if4 .taken))
+returns-4 c =
+    let a = c .before .before .before .before .before .before .args in
+    none-written _ _ _ (pack-high (a .width) (a .height) (length (a .dst .now)) (a .src .now) (c .before .before .before .if1 .left) (c .before .before .if2 .left) (c .before .if3 .left) (omega arith))
 
 mul-if5 : tie.Need-mul-if5
 mul-if5 c =
@@ -33,7 +37,9 @@ mul-if5 c =
     omega (arith, area-most (a .width) (a .height) (c .before .if3 .left) (c .if4 .left))
 
 returns-5 : tie.Need-returns-5
-returns-5 c = none-written _ _ _ (pack-short _ _ _ _ (c .before .before .before .before .if1 .left) (c .before .before .before .if2 .left) (c .before .before .if3 .left) (c .before .if4 .left) (c .if5 .taken))
+returns-5 c =
+    let a = c .before .before .before .before .before .before .before .args in
+    none-written _ _ _ (pack-short (a .width) (a .height) (length (a .dst .now)) (a .src .now) (c .before .before .before .before .if1 .left) (c .before .before .before .if2 .left) (c .before .before .if3 .left) (c .before .if4 .left) (omega arith))
 
 encode-requires : tie.Need-encode-requires
 encode-requires c κs = search needs
