@@ -13,6 +13,7 @@ use Rattle.rle_format.specs.Pack.{planeSegments, packing, writeSegments,
 use Rattle.rle_format.proofs.Cases.{le-or-gt, eq-or-ne}
 use Rattle.rle_format.proofs.Outcome.{same-answer}
 use Rattle.rle_format.proofs.Writing.{write-all, write-refused}
+use Rattle.rle_format.proofs.PackingSize.{packing-most}
 use Rattle.rle_format.proofs.Sides.{no-width, no-height, too-wide, too-high, in-sides}
 
 module _ (w h room : ℕ) (samples : List ℕ) where
@@ -47,6 +48,12 @@ module _ (w h room : ℕ) (samples : List ℕ) where
           pub pack-segments : w * h ≤ length samples → packPlane w h room samples ≡ writeSegments (planeSegments w h samples) room
           unfolding packPlane
           pack-segments l = in-sides refuse w h in-source hw hh lw lh ∙ simp (le-ltb (length samples) (w * h) l)
+
+          -- two bytes a sample are room enough: refusal 12 does not come
+          pub pack-enough : w * h ≤ length samples → 2 * (w * h) ≤ room
+              → packPlane w h room samples ≡ record { written = packing w h samples; answer = counted (length (packing w h samples)) }
+          unfolding packing
+          pack-enough l enough = pack-segments l ∙ write-all (planeSegments w h samples) room (omega (arith, packing-most w h samples))
 
 -- ---- a plane that was packed
 

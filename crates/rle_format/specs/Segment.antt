@@ -76,7 +76,8 @@ allBytes [] = []
 allBytes (s ∷ ss) = bytes s ++ allBytes ss
 
 -- the segments that have a control byte: up to 15 raw bytes and a run of up to 15 that is not 1 or 2, one value at least; or a long
--- run of 16 to 47, "the largest", without raw bytes. `control` is right of these, and the packing has no others (rle_round_trip/proofs)
+-- run of 16 to 47, "the largest", without raw bytes. `control` is right of these, and the packing has no others
+-- (proofs/RowSegments.antt: segments-coded)
 abbrev pub Coded : Segment → Type 0
 Coded s =
     ((length (s .raw) ≤ 15) × (s .run ≤ 15) × (s .run ≡ 1 → ⊥) × (s .run ≡ 2 → ⊥) × (1 ≤ count s))

@@ -6,7 +6,7 @@ use mathlib.Core.List.{List, [], _++_, append-nil}
 use Prim.Native.Nat.{ℕ, _+_, _*_, _-_, _≤_, _<_, min}
 use native.Mathlib.Omega.{arith}
 use lib.ListN.{length, take, drop, getD}
-use lib.Seq.{take-append-le, take-all}
+use lib.Seq.{take-append-le, take-at, take-all}
 use Rattle.rle_format.specs.declared.Refusal.{Refusal}
 use Rattle.rle_format.specs.declared.Unpacked.{Unpacked}
 use Rattle.rle_format.specs.Answer.{Answer, counted, refused, number, told}
@@ -36,6 +36,9 @@ module _ (width height : ℕ) (samples before packed : List ℕ) (are-bytes : (i
     front : packed ≡ packing width height samples ++ drop (length (packing width height samples)) before
     unfolding over
     front = is ∙ ap (λ (l : List ℕ). l ++ drop (length l) before) (whole .whole)
+
+    begins : take n packed ≡ packing width height samples
+    begins = ap (take n) front ∙ take-at (packing width height samples) (drop (length (packing width height samples)) before) n (sym (whole .size))
 
     -- and its first bytes are the first of the packing
     taken : (end : ℕ) → Taken width height samples (min end n) (take end packed)
@@ -76,7 +79,7 @@ module _ (width height : ℕ) (samples before packed : List ℕ) (are-bytes : (i
       → Unpacks width height packed end dst left r → Trips width height samples (packPlane width height (length before) samples .answer) packed end dst left r
   trips n end dst left (NotPacked k) made it = absurd it
   trips n end dst left TooLong made it = ((n, made), it)
-  trips n end dst left (Done u) made it = ((n, made, λ room. tripped n made end dst left u room it), it)
+  trips n end dst left (Done u) made it = ((n, made, whole n made .size, begins n made, λ room. tripped n made end dst left u room it), it)
 
 -- the part that is lent is the first `end` bytes
 pub unpacked-first : (width height : ℕ) (packed : List ℕ) (end : ℕ) (dst left : List ℕ) (u : Unpacked) → end ≤ length packed

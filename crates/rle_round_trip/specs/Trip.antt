@@ -8,6 +8,7 @@ use lib.ListN.{length, take}
 use Rattle.rle_format.specs.Answer.{Answer, counted, refused, number, told}
 use Rattle.rle_format.specs.Slice.{over}
 use Rattle.rle_format.specs.Unpack.{unpackPlane}
+use Rattle.rle_format.specs.Pack.{packing}
 use Rattle.rle_round_trip.specs.declared.RoundTrip.{RoundTrip}
 use Rattle.rle_round_trip.specs.declared.RoundTrip.the-variants.{NotPacked, TooLong, Done}
 use Rattle.rle_round_trip.specs.Demand.{Demand3}
@@ -21,11 +22,16 @@ Unpacks width height packed end dst left (Done u) =
     × (told u ≡ unpackPlane width height (length dst) (take end packed) .answer)
     × (left ≡ over dst (unpackPlane width height (length dst) (take end packed) .written))
 
--- `made` is the answer of packing, `packed` the slice after it. Each case of the answer excludes the others (proofs/Trip.antt: one-trip)
+-- `made` is the answer of packing, `packed` the slice after it: where n bytes were written, these are the packing.
+-- Each case of the answer excludes the others (proofs/Trip.antt: one-trip)
 abbrev pub Trips : (width height : ℕ) (samples : List ℕ) (made : Answer) (packed : List ℕ) (end : ℕ) (dst left : List ℕ) → RoundTrip → Type 0
 Trips width height samples made packed end dst left (NotPacked k) = (made ≡ refused (number k)) × (left ≡ dst)
 Trips width height samples made packed end dst left TooLong =
     ((n : ℕ) × (made ≡ counted n)) × Unpacks width height packed end dst left TooLong
 Trips width height samples made packed end dst left (Done u) =
-    ((n : ℕ) × (made ≡ counted n) × (width * height ≤ length dst → Demand3 width height samples dst (min end n) left (told u)))
+    ((n : ℕ)
+    × (made ≡ counted n)
+    × (n ≡ length (packing width height samples))
+    × (take n packed ≡ packing width height samples)
+    × (width * height ≤ length dst → Demand3 width height samples dst (min end n) left (told u)))
     × Unpacks width height packed end dst left (Done u)
