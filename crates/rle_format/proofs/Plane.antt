@@ -184,3 +184,7 @@ plane-bounded w h room body =
   where
     at-entry : (r : ℕ) → unpackPlane w h room body ≡ stop (refused r) → PlaneNumber r → PlaneBounded (w * h) body (unpackPlane w h room body .written) (unpackPlane w h room body .answer)
     at-entry r e k = entry-bounded (w * h) r body (unpackPlane w h room body) e k
+
+-- so that the bytes that were read are few
+pub read-few : (w h room : ℕ) (body : List ℕ) (n : ℕ) → unpackPlane w h room body .answer ≡ counted n → n ≤ 134217728
+read-few w h room body n e = let b = rw e at (plane-bounded w h room body) in omega arith
