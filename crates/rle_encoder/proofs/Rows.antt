@@ -6,7 +6,7 @@ use Prim.Native.Nat.{ℕ, zero, suc, _+_, _*_, _-_, _≤_, _<_}
 use native.Mathlib.Nat.{zero-add, mul-comm, mul-assoc, mul-one, mul-le-mul-right, add-mul}
 use native.Mathlib.Omega.{arith}
 use lib.ListN.{length, take, drop, getD, length-drop, List·getD-append}
-use lib.Seq.{take-at, take-take, getD-at, getD-take, getD-drop, ext-getD, length-take-le}
+use lib.Seq.{take-at, getD-at, getD-take, getD-drop, ext-getD, length-take-le}
 use Rattle.rle_format.specs.declared.Packed.{Packed}
 use Rattle.rle_format.specs.Answer.{Answer, counted, refused, more, toldPacked}
 use Rattle.rle_format.specs.Slice.{over, putAt}
@@ -14,7 +14,7 @@ use Rattle.rle_format.specs.Delta.{deltaCode, columns}
 use Rattle.rle_format.specs.Segment.{Segment}
 use Rattle.rle_format.specs.Pack.{rowSegments, rowAt, codesAt, planeSegments, writeSegments}
 use Rattle.rle_format.proofs.Cases.{le-or-gt}
-use Rattle.rle_format.proofs.Slice.{take-drop}
+use Rattle.rle_format.proofs.RowAt.{row-front}
 use Rattle.rle_encoder.specs.Samples.{spaced, rowOf, codesOf}
 use Rattle.rle_encoder.specs.Written.{answerAt, sliceAt}
 use Rattle.rle_encoder.proofs.Head.{Wrote}
@@ -139,27 +139,25 @@ spaced-one n d h =
     ∙ sym (getD-take n d i 0 (omega arith)))
 
 -- the rows of a plane are told by its first samples
-row-of-first : (width n r : ℕ) (d : List ℕ) → r * width + width ≤ n → rowAt width (take n d) r ≡ rowAt width d r
-unfolding rowAt
-row-of-first width n r d h =
-    take-drop (take n d) (r * width) width ∙ ap (drop (r * width)) (take-take (r * width + width) n d h) ∙ sym (take-drop d (r * width) width)
+row-of-first : (width n r : ℕ) (d : List ℕ) → n ≤ length d → suc r * width ≤ n → rowAt width (take n d) r ≡ rowAt width d r
+row-of-first width n r d k h = ap (λ (l : List ℕ). rowAt width l r) (sym (append-nil (take n d))) ∙ row-front width r n d [] h k
 
-codes-of-first : (width n r : ℕ) (d : List ℕ) → r * width + width ≤ n → codesAt width (take n d) r ≡ codesAt width d r
+codes-of-first : (width n r : ℕ) (d : List ℕ) → n ≤ length d → suc r * width ≤ n → codesAt width (take n d) r ≡ codesAt width d r
 unfolding codesAt
-codes-of-first width n zero d h = row-of-first width n 0 d h
-codes-of-first width n (suc r) d h = λ i. columns deltaCode (row-of-first width n r d (omega arith) i) (row-of-first width n (suc r) d h i)
+codes-of-first width n zero d k h = row-of-first width n 0 d k h
+codes-of-first width n (suc r) d k h = λ i. columns deltaCode (row-of-first width n r d k (omega arith) i) (row-of-first width n (suc r) d k h i)
 
-segments-of-first : (width n rows : ℕ) (d : List ℕ) → rows * width ≤ n → planeSegments width rows (take n d) ≡ planeSegments width rows d
+segments-of-first : (width n rows : ℕ) (d : List ℕ) → n ≤ length d → rows * width ≤ n → planeSegments width rows (take n d) ≡ planeSegments width rows d
 unfolding planeSegments
-segments-of-first width n zero d h = refl
-segments-of-first width n (suc rows) d h =
-    λ i. segments-of-first width n rows d (omega arith) i ++ rowSegments (codes-of-first width n rows d (omega arith) i)
+segments-of-first width n zero d k h = refl
+segments-of-first width n (suc rows) d k h =
+    λ i. segments-of-first width n rows d k (omega arith) i ++ rowSegments (codes-of-first width n rows d k h i)
 
 pub plane-by-itself : (width height : ℕ) (d : List ℕ) → width * height ≤ length d
     → planeSegments width height (spaced 0 1 (width * height) d) ≡ planeSegments width height d
 plane-by-itself width height d h =
     ap (planeSegments width height) (spaced-one (width * height) d h)
-    ∙ segments-of-first width (width * height) height d (omega (arith, mul-comm width height))
+    ∙ segments-of-first width (width * height) height d h (omega (arith, mul-comm width height))
 
 -- ---- from the slice's first place on
 

@@ -8,6 +8,7 @@ pub mod Segment
 pub mod Outcome
 pub mod Row
 pub mod Plane
+pub mod RowAt
 pub mod SegmentSteps
 pub mod Segments
 pub mod LongRun

@@ -1,35 +1,24 @@
 -- Demand 3 holds of every plane, every m and every destination.
-use mathlib.Core.Path.{_≡_, sym, ap, _∙_}
+use mathlib.Core.Path.{_≡_, _∙_}
 use mathlib.Core.Logic.{⊎-elim}
 use mathlib.Core.List.{List, [], _++_, append-assoc, append-nil}
 use mathlib.Core.Option.{none}
 use Prim.Native.Nat.{ℕ, suc, _+_, _*_, _≤_, _<_}
-use native.Mathlib.Nat.{suc-mul, mul-comm, mul-le-mul-right}
+use native.Mathlib.Nat.{mul-comm, mul-le-mul-right}
 use native.Mathlib.Omega.{arith}
 use lib.ListN.{length, take, drop}
-use lib.Seq.{take-append-le, take-take, length-take-le}
 use Rattle.rle_format.specs.Answer.{Answer, counted, refused}
 use Rattle.rle_format.specs.Slice.{over}
 use Rattle.rle_format.specs.Pack.{rowAt, codesAt, packing}
 use Rattle.rle_format.specs.Unpack.{unpackRows, unpackPlane}
 use Rattle.rle_format.proofs.Cases.{le-or-gt}
-use Rattle.rle_format.proofs.Slice.{take-drop}
+use Rattle.rle_format.proofs.RowAt.{row-front}
 use Rattle.rle_format.proofs.Outcome.{same-answer, same-slice}
 use Rattle.rle_format.proofs.Plane.{plane-rows}
 use Rattle.rle_round_trip.specs.Demand.{Plane, Taken, Whole, Next, partOfRow, Demand3}
 use Rattle.rle_round_trip.specs.Claim.{DemandThree}
 use Rattle.rle_round_trip.proofs.Packing.{packing-grows, next-row}
 use Rattle.rle_round_trip.proofs.Taken.{rows-within, unpack-all, unpack-part}
-
--- a row that lies within the first n samples stands in a list that begins with these
-row-front : (width r n : ℕ) (samples rest : List ℕ) → suc r * width ≤ n → n ≤ length samples → rowAt width (take n samples ++ rest) r ≡ rowAt width samples r
-unfolding rowAt
-row-front width r n samples rest h k =
-    let one-more = suc-mul r width in
-    take-drop (take n samples ++ rest) (r * width) width
-    ∙ ap (drop (r * width))
-    (take-append-le (r * width + width) (take n samples) rest (omega (arith, length-take-le n samples k)) ∙ take-take (r * width + width) n samples (omega arith))
-    ∙ sym (take-drop samples (r * width) width)
 
 module _ (width height m : ℕ) (samples body dst : List ℕ) (plane : Plane width height samples) (taken : Taken width height samples m body)
     (room : width * height ≤ length dst) where
