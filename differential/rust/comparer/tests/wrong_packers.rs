@@ -5,10 +5,9 @@ mod support;
 use comparer::case::MAX_SIDE;
 use comparer::packing::fixed;
 use comparer::packing::random::Random;
-use comparer::shrink::shrink;
-use comparer::{Comparer, Difference, Function, Library};
+use comparer::{Function, Library};
 use std::cell::RefCell;
-use support::{first_refused, Slices, RIGHT_UNPACK};
+use support::{first_refused, Search, Slices, RIGHT_UNPACK};
 
 const RIGHT: u8 = 0;
 const TWO_REPEATS_CLOSE: u8 = 1;
@@ -268,35 +267,28 @@ fn finish<const MISTAKE: u8>(slices: &Slices, width: usize, height: usize, writt
     written as i64
 }
 
-/// The smallest difference that the comparer finds in a packer, with some rounds of random cases.
-fn difference_in(pack: Function) -> Option<Box<Difference>> {
-    let mut comparer = Comparer::new(Library { unpack: RIGHT_UNPACK, pack });
-    let mut outcome = fixed::run(&mut comparer);
-    let mut random = Random::new(1);
-    for _ in 0..500 {
-        outcome = outcome.and_then(|()| random.round(&mut comparer));
-    }
-    outcome.err().map(|difference| shrink(&mut comparer, difference))
+const SEARCH: Search = Search {
+    fixed: fixed::run,
+    random: |seed| {
+        let mut random = Random::new(seed);
+        Box::new(move |comparer| random.round(comparer))
+    },
+    rounds: 500,
+    alone: 20_000,
+};
+
+/// The packer beside a right unpacker.
+fn with(pack: Function) -> Library {
+    Library { unpack: RIGHT_UNPACK, pack }
 }
 
-/// Finds a mistake by random cases alone: these must be worth their time too.
-fn random_difference_in(pack: Function) -> Option<Box<Difference>> {
-    let mut comparer = Comparer::new(Library { unpack: RIGHT_UNPACK, pack });
-    let mut random = Random::new(2);
-    (0..20_000).find_map(|_| random.round(&mut comparer).err())
-}
-
-/// The mistake is found, both ways, and its smallest input is as small as this one.
 fn is_found(packer: Function, smallest: &str) {
-    let difference = difference_in(packer).expect("a mistake is found");
-    assert_eq!(difference.case.to_string(), smallest, "{difference}");
-    assert!(random_difference_in(packer).is_some(), "random cases find nothing");
+    SEARCH.finds(with(packer), smallest);
 }
 
 #[test]
 fn a_right_packer_has_no_difference() {
-    let difference = difference_in(packer::<RIGHT>);
-    assert!(difference.is_none(), "{}", difference.unwrap());
+    SEARCH.finds_nothing(with(packer::<RIGHT>));
 }
 
 #[test]
@@ -462,7 +454,7 @@ fn sixteen_raw_bytes_in_one_segment() {
 /// What it answers hangs on the call before, so its smallest input says little.
 #[test]
 fn a_row_kept_from_the_plane_before() {
-    assert!(difference_in(packer::<ROW_KEPT>).is_some());
+    assert!(SEARCH.difference_in(with(packer::<ROW_KEPT>)).is_some());
     KEPT.take();
-    assert!(random_difference_in(packer::<ROW_KEPT>).is_some());
+    assert!(SEARCH.random_difference_in(with(packer::<ROW_KEPT>)).is_some());
 }

@@ -5,9 +5,8 @@ mod support;
 use comparer::demand::random::Random;
 use comparer::demand::{fixed, Model};
 use comparer::planes::{counts, segment_starts};
-use comparer::shrink::shrink;
-use comparer::{Comparer, Difference, Function, Library};
-use support::{Slices, RIGHT_PACK, RIGHT_UNPACK};
+use comparer::{Function, Library};
+use support::{Search, Slices, RIGHT_PACK, RIGHT_UNPACK};
 
 const ALWAYS_7: u8 = 1;
 const SEVEN_IF_CUT: u8 = 2;
@@ -169,30 +168,18 @@ unsafe extern "C" fn pack_singly(
     2 * (width * height) as i64
 }
 
-/// The smallest difference that demand 3 finds, with some rounds of random planes.
-fn difference_in(library: Library) -> Option<Box<Difference>> {
-    let mut comparer = Comparer::new(library);
-    let mut outcome = fixed::run(&mut comparer);
-    let mut random = Random::new(1);
-    for _ in 0..500 {
-        outcome = outcome.and_then(|()| random.round(&mut comparer));
-    }
-    outcome.err().map(|difference| shrink(&mut comparer, difference))
-}
+const SEARCH: Search = Search {
+    fixed: fixed::run,
+    random: |seed| {
+        let mut random = Random::new(seed);
+        Box::new(move |comparer| random.round(comparer))
+    },
+    rounds: 500,
+    alone: 5_000,
+};
 
-/// Finds a mistake by random planes alone.
-fn random_difference_in(library: Library) -> Option<Box<Difference>> {
-    let mut comparer = Comparer::new(library);
-    let mut random = Random::new(2);
-    (0..5_000).find_map(|_| random.round(&mut comparer).err())
-}
-
-/// The mistake is found, both ways, in the library and not in the Rust, and its smallest input is as small as this one.
 fn pair_is_found(library: Library, smallest: &str) {
-    let difference = difference_in(library).expect("a mistake is found");
-    assert_eq!(difference.case.to_string(), smallest, "{difference}");
-    assert_eq!(difference.whose, "the library");
-    assert!(random_difference_in(library).is_some(), "random planes find nothing");
+    SEARCH.finds(library, smallest);
 }
 
 fn is_found(unpack: Function, smallest: &str) {
@@ -201,8 +188,7 @@ fn is_found(unpack: Function, smallest: &str) {
 
 #[test]
 fn a_right_pair_has_no_difference() {
-    let difference = difference_in(Library { unpack: RIGHT_UNPACK, pack: RIGHT_PACK });
-    assert!(difference.is_none(), "{}", difference.unwrap());
+    SEARCH.finds_nothing(Library { unpack: RIGHT_UNPACK, pack: RIGHT_PACK });
 }
 
 #[test]

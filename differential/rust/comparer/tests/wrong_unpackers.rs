@@ -4,11 +4,10 @@ mod support;
 
 use comparer::case::MAX_SIDE;
 use comparer::planes::counts;
-use comparer::shrink::shrink;
 use comparer::unpacking::fixed;
 use comparer::unpacking::random::Random;
-use comparer::{Comparer, Difference, Function, Library};
-use support::{first_refused, Slices, RIGHT_PACK};
+use comparer::{Function, Library};
+use support::{first_refused, Search, Slices, RIGHT_PACK};
 
 const RIGHT: u8 = 0;
 const LAST_BYTE_CARRIED: u8 = 1;
@@ -186,35 +185,28 @@ fn finish<const MISTAKE: u8>(slices: &Slices, samples: usize, read: usize) -> i6
     read as i64
 }
 
-/// The smallest difference that the comparer finds in an unpacker, with some rounds of random cases.
-fn difference_in(unpack: Function) -> Option<Box<Difference>> {
-    let mut comparer = Comparer::new(Library { unpack, pack: RIGHT_PACK });
-    let mut outcome = fixed::run(&mut comparer);
-    let mut random = Random::new(1);
-    for _ in 0..2000 {
-        outcome = outcome.and_then(|()| random.round(&mut comparer));
-    }
-    outcome.err().map(|difference| shrink(&mut comparer, difference))
+const SEARCH: Search = Search {
+    fixed: fixed::run,
+    random: |seed| {
+        let mut random = Random::new(seed);
+        Box::new(move |comparer| random.round(comparer))
+    },
+    rounds: 2000,
+    alone: 20_000,
+};
+
+/// The unpacker beside a right packer.
+fn with(unpack: Function) -> Library {
+    Library { unpack, pack: RIGHT_PACK }
 }
 
-/// Finds a mistake by random cases alone: these must be worth their time too.
-fn random_difference_in(unpack: Function) -> Option<Box<Difference>> {
-    let mut comparer = Comparer::new(Library { unpack, pack: RIGHT_PACK });
-    let mut random = Random::new(2);
-    (0..20_000).find_map(|_| random.round(&mut comparer).err())
-}
-
-/// The mistake is found, both ways, and its smallest input is as small as this one.
 fn is_found(unpacker: Function, smallest: &str) {
-    let difference = difference_in(unpacker).expect("a mistake is found");
-    assert_eq!(difference.case.to_string(), smallest, "{difference}");
-    assert!(random_difference_in(unpacker).is_some(), "random cases find nothing");
+    SEARCH.finds(with(unpacker), smallest);
 }
 
 #[test]
 fn a_right_unpacker_has_no_difference() {
-    let difference = difference_in(unpacker::<RIGHT>);
-    assert!(difference.is_none(), "{}", difference.unwrap());
+    SEARCH.finds_nothing(with(unpacker::<RIGHT>));
 }
 
 #[test]

@@ -2,7 +2,8 @@
 
 #![allow(dead_code)]
 
-use comparer::{Case, Function};
+use comparer::shrink::shrink;
+use comparer::{Case, Comparer, Difference, Function, Library, Outcome};
 
 /// The slices of one call. Indices are not tested: a mistake may pass them, as it would in a library.
 pub struct Slices {
@@ -91,4 +92,52 @@ pub const RIGHT_PACK: Function = right_pack;
 /// The order in which the refusals at entry are tested: zero, large, short.
 pub fn first_refused(tests: [(bool, i64); 3], order: [usize; 3]) -> i64 {
     order.iter().map(|&at| tests[at]).find(|test| test.0).map_or(0, |test| test.1)
+}
+
+/// Some cases of one kind: what a round of random cases does.
+pub type Round = Box<dyn FnMut(&mut Comparer) -> Outcome>;
+
+/// How a mistake is looked for.
+pub struct Search {
+    /// The cases that are the same in every run.
+    pub fixed: fn(&mut Comparer) -> Outcome,
+    /// Random cases from a seed.
+    pub random: fn(u64) -> Round,
+    /// So many rounds of these follow the fixed cases.
+    pub rounds: usize,
+    /// So many rounds must do without them: random cases must be worth their time too.
+    pub alone: usize,
+}
+
+impl Search {
+    /// The smallest difference that is found.
+    pub fn difference_in(&self, library: Library) -> Option<Box<Difference>> {
+        let mut comparer = Comparer::new(library);
+        let mut round = (self.random)(1);
+        let mut outcome = (self.fixed)(&mut comparer);
+        for _ in 0..self.rounds {
+            outcome = outcome.and_then(|()| round(&mut comparer));
+        }
+        outcome.err().map(|difference| shrink(&mut comparer, difference))
+    }
+
+    /// One that random cases find alone.
+    pub fn random_difference_in(&self, library: Library) -> Option<Box<Difference>> {
+        let mut comparer = Comparer::new(library);
+        let mut round = (self.random)(2);
+        (0..self.alone).find_map(|_| round(&mut comparer).err())
+    }
+
+    /// The mistake is found, both ways, in the library and not in the Rust, and its smallest input is as small as this one.
+    pub fn finds(&self, library: Library, smallest: &str) {
+        let difference = self.difference_in(library).expect("a mistake is found");
+        assert_eq!(difference.case.to_string(), smallest, "{difference}");
+        assert_eq!(difference.whose, "the library");
+        assert!(self.random_difference_in(library).is_some(), "random cases find nothing");
+    }
+
+    pub fn finds_nothing(&self, library: Library) {
+        let difference = self.difference_in(library);
+        assert!(difference.is_none(), "{}", difference.unwrap());
+    }
 }
