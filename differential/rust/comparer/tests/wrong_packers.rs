@@ -7,7 +7,7 @@ use comparer::packing::fixed;
 use comparer::packing::random::Random;
 use comparer::{Function, Library};
 use std::cell::RefCell;
-use support::{first_refused, Search, Slices, RIGHT_UNPACK};
+use support::{exported, first_refused, Call, Search, Slices, RIGHT_UNPACK};
 
 const RIGHT: u8 = 0;
 const TWO_REPEATS_CLOSE: u8 = 1;
@@ -221,29 +221,25 @@ fn put_rows<const MISTAKE: u8>(writer: &mut Writer<'_>, width: usize, height: us
 }
 
 /// A packer with one mistake, or with none.
-unsafe extern "C" fn packer<const MISTAKE: u8>(
-    src: *const u8,
-    src_len: usize,
-    dst: *mut u8,
-    dst_len: usize,
-    width: usize,
-    height: usize,
-) -> i64 {
-    let slices = Slices { src, src_len, dst, dst_len };
-    let refused = refused_at_entry::<MISTAKE>(&slices, width, height);
-    if refused != 0 {
-        return -refused;
-    }
-    let earlier: Vec<u8> = (0..dst_len).map(|at| slices.sample(at)).collect();
-    let mut writer = Writer { slices: &slices, at: 0 };
-    let outcome = put_rows::<MISTAKE>(&mut writer, width, height);
-    let written = writer.at;
-    if MISTAKE == NOTHING_BEFORE_12 && outcome.is_err() {
-        earlier.iter().enumerate().for_each(|(at, &byte)| slices.write(at, byte));
-    }
-    match outcome {
-        Ok(()) => finish::<MISTAKE>(&slices, width, height, written),
-        Err(number) => -number,
+struct Packer<const MISTAKE: u8>;
+
+impl<const MISTAKE: u8> Call for Packer<MISTAKE> {
+    fn call(slices: Slices, width: usize, height: usize) -> i64 {
+        let refused = refused_at_entry::<MISTAKE>(&slices, width, height);
+        if refused != 0 {
+            return -refused;
+        }
+        let earlier: Vec<u8> = (0..slices.dst_len).map(|at| slices.sample(at)).collect();
+        let mut writer = Writer { slices: &slices, at: 0 };
+        let outcome = put_rows::<MISTAKE>(&mut writer, width, height);
+        let written = writer.at;
+        if MISTAKE == NOTHING_BEFORE_12 && outcome.is_err() {
+            earlier.iter().enumerate().for_each(|(at, &byte)| slices.write(at, byte));
+        }
+        match outcome {
+            Ok(()) => finish::<MISTAKE>(&slices, width, height, written),
+            Err(number) => -number,
+        }
     }
 }
 
@@ -288,173 +284,173 @@ fn is_found(packer: Function, smallest: &str) {
 
 #[test]
 fn a_right_packer_has_no_difference() {
-    SEARCH.finds_nothing(with(packer::<RIGHT>));
+    SEARCH.finds_nothing(with(exported::<Packer<RIGHT>>));
 }
 
 #[test]
 fn two_repeats_close_a_segment() {
-    is_found(packer::<TWO_REPEATS_CLOSE>, "pp 3 1 000000 EEEE");
+    is_found(exported::<Packer<TWO_REPEATS_CLOSE>>, "pp 3 1 000000 EEEE");
 }
 
 #[test]
 fn four_repeats_needed_to_close_a_segment() {
-    is_found(packer::<FOUR_REPEATS_CLOSE>, "pp 4 1 00*4 EEEE");
+    is_found(exported::<Packer<FOUR_REPEATS_CLOSE>>, "pp 4 1 00*4 EEEE");
 }
 
 #[test]
 fn sixteen_equal_values_as_a_literal() {
-    is_found(packer::<SIXTEEN_AS_LITERAL>, "pp 16 1 00*16 EEEE");
+    is_found(exported::<Packer<SIXTEEN_AS_LITERAL>>, "pp 16 1 00*16 EEEE");
 }
 
 #[test]
 fn sixteen_left_of_a_run_not_as_a_long_run() {
-    is_found(packer::<SIXTEEN_LEFT_NOT_LONG>, "pp 32 1 00*32 EEEEEE");
+    is_found(exported::<Packer<SIXTEEN_LEFT_NOT_LONG>>, "pp 32 1 00*32 EEEEEE");
 }
 
 #[test]
 fn a_run_of_48_in_one_control_byte() {
-    is_found(packer::<FORTY_EIGHT_AT_ONCE>, "pp 64 1 00*64 EEEEEE");
+    is_found(exported::<Packer<FORTY_EIGHT_AT_ONCE>>, "pp 64 1 00*64 EEEEEE");
 }
 
 #[test]
 fn low_bits_of_a_run_of_32_wrong() {
-    is_found(packer::<LOW_BITS_OF_32>, "pp 48 1 00*48 EEEEEE");
+    is_found(exported::<Packer<LOW_BITS_OF_32>>, "pp 48 1 00*48 EEEEEE");
 }
 
 #[test]
 fn high_bits_of_a_run_of_32_wrong() {
-    is_found(packer::<HIGH_BITS_OF_32>, "pp 48 1 00*48 EEEEEE");
+    is_found(exported::<Packer<HIGH_BITS_OF_32>>, "pp 48 1 00*48 EEEEEE");
 }
 
 #[test]
 fn the_last_1_to_3_of_a_long_run_as_a_run() {
-    is_found(packer::<REST_AS_RUN>, "pp 18 1 00*18 EE*4");
+    is_found(exported::<Packer<REST_AS_RUN>>, "pp 18 1 00*18 EE*4");
 }
 
 #[test]
 fn a_run_at_the_rows_end_left_raw() {
-    is_found(packer::<ROW_END_RAW>, "pp 4 1 00*4 EEEE");
+    is_found(exported::<Packer<ROW_END_RAW>>, "pp 4 1 00*4 EEEE");
 }
 
 #[test]
 fn a_run_over_the_rows_end() {
-    is_found(packer::<RUN_OVER_ROW_END>, "pp 1 2 0000 EEEE");
+    is_found(exported::<Packer<RUN_OVER_ROW_END>>, "pp 1 2 0000 EEEE");
 }
 
 #[test]
 fn the_difference_from_the_left_neighbour() {
-    is_found(packer::<DELTA_FROM_LEFT>, "pp 2 2 00010000 EE*6");
+    is_found(exported::<Packer<DELTA_FROM_LEFT>>, "pp 2 2 00010000 EE*6");
 }
 
 #[test]
 fn the_difference_from_two_rows_above() {
-    is_found(packer::<DELTA_FROM_TWO_ABOVE>, "pp 1 3 000100 EE*6");
+    is_found(exported::<Packer<DELTA_FROM_TWO_ABOVE>>, "pp 1 3 000100 EE*6");
 }
 
 #[test]
 fn a_difference_in_the_first_row_too() {
-    is_found(packer::<DELTA_IN_FIRST_ROW>, "pp 2 1 0001 EEEEEE");
+    is_found(exported::<Packer<DELTA_IN_FIRST_ROW>>, "pp 2 1 0001 EEEEEE");
 }
 
 #[test]
 fn the_difference_128_coded_wrong() {
-    is_found(packer::<DELTA_SIGN>, "pp 1 2 0080 EE*4");
+    is_found(exported::<Packer<DELTA_SIGN>>, "pp 1 2 0080 EE*4");
 }
 
 #[test]
 fn half_a_segment_before_refusal_12() {
-    is_found(packer::<HALF_A_SEGMENT>, "pp 1 1 00 EE");
+    is_found(exported::<Packer<HALF_A_SEGMENT>>, "pp 1 1 00 EE");
 }
 
 #[test]
 fn refusal_12_one_byte_early() {
-    is_found(packer::<REFUSED_EARLY>, "pp 1 1 00 EEEE");
+    is_found(exported::<Packer<REFUSED_EARLY>>, "pp 1 1 00 EEEE");
 }
 
 #[test]
 fn refusal_12_one_byte_late() {
-    is_found(packer::<REFUSED_LATE>, "pp 1 1 00 EE");
+    is_found(exported::<Packer<REFUSED_LATE>>, "pp 1 1 00 EE");
 }
 
 #[test]
 fn refusal_12_when_the_room_is_exact() {
-    is_found(packer::<REFUSED_WHEN_EXACT>, "pp 1 1 00 EEEE");
+    is_found(exported::<Packer<REFUSED_WHEN_EXACT>>, "pp 1 1 00 EEEE");
 }
 
 #[test]
 fn earlier_segments_taken_back_by_refusal_12() {
-    is_found(packer::<NOTHING_BEFORE_12>, "pp 1 2 0000 EEEE");
+    is_found(exported::<Packer<NOTHING_BEFORE_12>>, "pp 1 2 0000 EEEE");
 }
 
 #[test]
 fn a_count_off_by_one() {
-    is_found(packer::<COUNT_OFF_BY_ONE>, "pp 1 1 00 EEEE");
+    is_found(exported::<Packer<COUNT_OFF_BY_ONE>>, "pp 1 1 00 EEEE");
 }
 
 #[test]
 fn a_sample_read_beyond_the_plane() {
-    is_found(packer::<READS_BEYOND>, "pp 1 1 00 EEEE");
+    is_found(exported::<Packer<READS_BEYOND>>, "pp 1 1 00 EEEE");
 }
 
 #[test]
 fn a_source_that_is_too_short_taken() {
-    is_found(packer::<SHORT_SOURCE_TAKEN>, "pp 1 1 - -");
+    is_found(exported::<Packer<SHORT_SOURCE_TAKEN>>, "pp 1 1 - -");
 }
 
 #[test]
 fn a_source_that_is_longer_refused() {
-    is_found(packer::<LONG_SOURCE_REFUSED>, "pp 1 1 0000 -");
+    is_found(exported::<Packer<LONG_SOURCE_REFUSED>>, "pp 1 1 0000 -");
 }
 
 #[test]
 fn refusal_11_before_2() {
-    is_found(packer::<SOURCE_BEFORE_SIDES>, "pp 1 8193 - -");
+    is_found(exported::<Packer<SOURCE_BEFORE_SIDES>>, "pp 1 8193 - -");
 }
 
 #[test]
 fn refusal_2_before_1() {
-    is_found(packer::<LARGE_BEFORE_ZERO>, "pp 0 8193 - -");
+    is_found(exported::<Packer<LARGE_BEFORE_ZERO>>, "pp 0 8193 - -");
 }
 
 #[test]
 fn refusal_12_before_11() {
-    is_found(packer::<ROOM_BEFORE_SOURCE>, "pp 1 1 - -");
+    is_found(exported::<Packer<ROOM_BEFORE_SOURCE>>, "pp 1 1 - -");
 }
 
 #[test]
 fn a_product_of_sides_that_wraps() {
-    is_found(packer::<PRODUCT_WRAPS>, "pp 8192 8 - -");
+    is_found(exported::<Packer<PRODUCT_WRAPS>>, "pp 8192 8 - -");
 }
 
 #[test]
 fn sides_of_8193_taken() {
-    is_found(packer::<SIDES_OF_8193>, "pp 1 8193 - -");
+    is_found(exported::<Packer<SIDES_OF_8193>>, "pp 1 8193 - -");
 }
 
 #[test]
 fn bytes_behind_the_packing_cleared() {
-    is_found(packer::<REST_CLEARED>, "pp 1 1 00 EEEEEE");
+    is_found(exported::<Packer<REST_CLEARED>>, "pp 1 1 00 EEEEEE");
 }
 
 #[test]
 fn a_source_written_to() {
-    is_found(packer::<WRITES_TO_THE_SOURCE>, "pp 1 1 00 EEEE");
+    is_found(exported::<Packer<WRITES_TO_THE_SOURCE>>, "pp 1 1 00 EEEE");
 }
 
 #[test]
 fn a_byte_written_before_the_packing() {
-    is_found(packer::<WRITES_BEFORE_THE_PACKING>, "pp 1 1 00 EEEE");
+    is_found(exported::<Packer<WRITES_BEFORE_THE_PACKING>>, "pp 1 1 00 EEEE");
 }
 
 #[test]
 fn sixteen_raw_bytes_in_one_segment() {
-    is_found(packer::<SIXTEEN_RAW>, "pp 16 1 00000001000100000001000001000000 EE*16");
+    is_found(exported::<Packer<SIXTEEN_RAW>>, "pp 16 1 00000001000100000001000001000000 EE*16");
 }
 
 /// What it answers hangs on the call before, so its smallest input says little.
 #[test]
 fn a_row_kept_from_the_plane_before() {
-    assert!(SEARCH.difference_in(with(packer::<ROW_KEPT>)).is_some());
+    assert!(SEARCH.difference_in(with(exported::<Packer<ROW_KEPT>>)).is_some());
     KEPT.take();
-    assert!(SEARCH.random_difference_in(with(packer::<ROW_KEPT>)).is_some());
+    assert!(SEARCH.random_difference_in(with(exported::<Packer<ROW_KEPT>>)).is_some());
 }

@@ -6,7 +6,7 @@ use comparer::demand::random::Random;
 use comparer::demand::{fixed, Model};
 use comparer::planes::{counts, segment_starts};
 use comparer::{Function, Library};
-use support::{Search, Slices, RIGHT_PACK, RIGHT_UNPACK};
+use support::{exported, Call, RightPack, Search, Slices, RIGHT_PACK, RIGHT_UNPACK};
 
 const ALWAYS_7: u8 = 1;
 const SEVEN_IF_CUT: u8 = 2;
@@ -46,24 +46,20 @@ fn undelta(code: u8) -> u8 {
 }
 
 /// An unpacker that is right but for one mistake.
-unsafe extern "C" fn unpacker<const MISTAKE: u8>(
-    src: *const u8,
-    src_len: usize,
-    dst: *mut u8,
-    dst_len: usize,
-    width: usize,
-    height: usize,
-) -> i64 {
-    let mut slices = Slices { src, src_len, dst, dst_len };
-    let before = slices.destination().to_vec();
-    if MISTAKE == ALWAYS_7 {
-        return -7;
-    }
-    let answer = right(&slices, width, height);
-    if answer < 0 {
-        spoil_cut::<MISTAKE>(&mut slices, &before, width, answer)
-    } else {
-        spoil_whole::<MISTAKE>(&mut slices, width, height, answer)
+struct Unpacker<const MISTAKE: u8>;
+
+impl<const MISTAKE: u8> Call for Unpacker<MISTAKE> {
+    fn call(mut slices: Slices, width: usize, height: usize) -> i64 {
+        let before = slices.destination().to_vec();
+        if MISTAKE == ALWAYS_7 {
+            return -7;
+        }
+        let answer = right(&slices, width, height);
+        if answer < 0 {
+            spoil_cut::<MISTAKE>(&mut slices, &before, width, answer)
+        } else {
+            spoil_whole::<MISTAKE>(&mut slices, width, height, answer)
+        }
     }
 }
 
@@ -117,55 +113,43 @@ fn spoil_whole<const MISTAKE: u8>(slices: &mut Slices, width: usize, height: usi
 
 /// A packer and an unpacker that are wrong in the same way: they take every sample's complement for the sample. What is
 /// packed comes back as it was.
-unsafe extern "C" fn pack_complements(
-    src: *const u8,
-    src_len: usize,
-    dst: *mut u8,
-    dst_len: usize,
-    width: usize,
-    height: usize,
-) -> i64 {
-    let slices = Slices { src, src_len, dst, dst_len };
-    let samples: Vec<u8> = slices.source().iter().map(|sample| !sample).collect();
-    RIGHT_PACK(samples.as_ptr(), src_len, dst, dst_len, width, height)
+struct PackComplements;
+
+impl Call for PackComplements {
+    fn call(slices: Slices, width: usize, height: usize) -> i64 {
+        let samples: Vec<u8> = slices.source().iter().map(|sample| !sample).collect();
+        RightPack::call(Slices { src: samples.as_ptr(), ..slices }, width, height)
+    }
 }
 
-unsafe extern "C" fn unpack_complements(
-    src: *const u8,
-    src_len: usize,
-    dst: *mut u8,
-    dst_len: usize,
-    width: usize,
-    height: usize,
-) -> i64 {
-    let mut slices = Slices { src, src_len, dst, dst_len };
-    let answer = right(&slices, width, height);
-    let filled = filled(&slices).min(dst_len);
-    slices.destination()[..filled].iter_mut().for_each(|sample| *sample = !*sample);
-    answer
+struct UnpackComplements;
+
+impl Call for UnpackComplements {
+    fn call(mut slices: Slices, width: usize, height: usize) -> i64 {
+        let answer = right(&slices, width, height);
+        let filled = filled(&slices).min(slices.dst_len);
+        slices.destination()[..filled].iter_mut().for_each(|sample| *sample = !*sample);
+        answer
+    }
 }
 
 /// A packer that writes every coded value as a segment of its own. Every unpacker gives back what it packs, and all that a
 /// cut holds.
-unsafe extern "C" fn pack_singly(
-    src: *const u8,
-    src_len: usize,
-    dst: *mut u8,
-    dst_len: usize,
-    width: usize,
-    height: usize,
-) -> i64 {
-    let mut slices = Slices { src, src_len, dst, dst_len };
-    for at in 0..width * height {
-        let sample = slices.read(at);
-        let column = [slices.read(at.saturating_sub(width)), sample];
-        let coded = if at < width { sample } else { Model::of(&column, 1, 2).packing[3] };
-        match slices.destination().get_mut(2 * at..2 * at + 2) {
-            Some(segment) => segment.copy_from_slice(&[0x10, coded]),
-            None => return -12,
+struct PackSingly;
+
+impl Call for PackSingly {
+    fn call(mut slices: Slices, width: usize, height: usize) -> i64 {
+        for at in 0..width * height {
+            let sample = slices.read(at);
+            let column = [slices.read(at.saturating_sub(width)), sample];
+            let coded = if at < width { sample } else { Model::of(&column, 1, 2).packing[3] };
+            match slices.destination().get_mut(2 * at..2 * at + 2) {
+                Some(segment) => segment.copy_from_slice(&[0x10, coded]),
+                None => return -12,
+            }
         }
+        2 * (width * height) as i64
     }
-    2 * (width * height) as i64
 }
 
 const SEARCH: Search = Search {
@@ -193,80 +177,83 @@ fn a_right_pair_has_no_difference() {
 
 #[test]
 fn complements_packed_and_unpacked() {
-    pair_is_found(Library { unpack: unpack_complements, pack: pack_complements }, "d3 1 1 00 0 - EE");
+    pair_is_found(
+        Library { unpack: exported::<UnpackComplements>, pack: exported::<PackComplements> },
+        "d3 1 1 00 0 - EE",
+    );
 }
 
 #[test]
 fn every_value_a_segment_of_its_own() {
-    pair_is_found(Library { unpack: RIGHT_UNPACK, pack: pack_singly }, "d3 2 1 0000 0 - EEEE");
+    pair_is_found(Library { unpack: RIGHT_UNPACK, pack: exported::<PackSingly> }, "d3 2 1 0000 0 - EEEE");
 }
 
 #[test]
 fn an_unpacker_that_says_7_at_once() {
-    is_found(unpacker::<ALWAYS_7>, "d3 1 1 00 2 - EE");
+    is_found(exported::<Unpacker<ALWAYS_7>>, "d3 1 1 00 2 - EE");
 }
 
 #[test]
 fn nothing_unpacked_if_bytes_are_missing() {
-    is_found(unpacker::<SEVEN_IF_CUT>, "d3 1 2 0000 2 - EEEE");
+    is_found(exported::<Unpacker<SEVEN_IF_CUT>>, "d3 1 2 0000 2 - EEEE");
 }
 
 #[test]
 fn an_invented_read_count() {
-    is_found(unpacker::<INVENTED_COUNT>, "d3 1 1 00 2 - EE");
+    is_found(exported::<Unpacker<INVENTED_COUNT>>, "d3 1 1 00 2 - EE");
 }
 
 #[test]
 fn following_bytes_counted() {
-    is_found(unpacker::<COUNT_IS_ALL>, "d3 1 1 00 2 00 EE");
+    is_found(exported::<Unpacker<COUNT_IS_ALL>>, "d3 1 1 00 2 00 EE");
 }
 
 #[test]
 fn the_next_row_as_samples() {
-    is_found(unpacker::<NEXT_ROW_AS_SAMPLES>, "d3 5 2 00000100010000010000 8 - EE*10");
+    is_found(exported::<Unpacker<NEXT_ROW_AS_SAMPLES>>, "d3 5 2 00000100010000010000 8 - EE*10");
 }
 
 #[test]
 fn the_next_row_untouched() {
-    is_found(unpacker::<NEXT_ROW_UNTOUCHED>, "d3 5 1 00*4,01 2 - EE*5");
+    is_found(exported::<Unpacker<NEXT_ROW_UNTOUCHED>>, "d3 5 1 00*4,01 2 - EE*5");
 }
 
 #[test]
 fn the_rest_of_the_next_row_cleared() {
-    is_found(unpacker::<NEXT_ROW_CLEARED>, "d3 1 1 00 0 - EE");
+    is_found(exported::<Unpacker<NEXT_ROW_CLEARED>>, "d3 1 1 00 0 - EE");
 }
 
 #[test]
 fn part_of_a_segment_unpacked() {
-    is_found(unpacker::<HALF_A_SEGMENT>, "d3 2 1 0000 2 - EEEE");
+    is_found(exported::<Unpacker<HALF_A_SEGMENT>>, "d3 2 1 0000 2 - EEEE");
 }
 
 #[test]
 fn a_finished_row_left_coded() {
-    is_found(unpacker::<LAST_ROW_CODED>, "d3 1 3 010000 4 - EEEEEE");
+    is_found(exported::<Unpacker<LAST_ROW_CODED>>, "d3 1 3 010000 4 - EEEEEE");
 }
 
 #[test]
 fn bytes_beyond_the_plane_cleared() {
-    is_found(unpacker::<REST_CLEARED>, "d3 1 1 00 2 - EEEE");
+    is_found(exported::<Unpacker<REST_CLEARED>>, "d3 1 1 00 2 - EEEE");
 }
 
 #[test]
 fn the_first_row_copied_down() {
-    is_found(unpacker::<FIRST_ROW_COPIED>, "d3 1 2 0001 4 - EEEE");
+    is_found(exported::<Unpacker<FIRST_ROW_COPIED>>, "d3 1 2 0001 4 - EEEE");
 }
 
 #[test]
 fn a_cut_packing_taken_for_whole() {
-    is_found(unpacker::<CUT_TAKEN>, "d3 1 1 00 0 - EE");
+    is_found(exported::<Unpacker<CUT_TAKEN>>, "d3 1 1 00 0 - EE");
 }
 
 #[test]
 fn refusal_8_for_7() {
-    is_found(unpacker::<EIGHT_FOR_SEVEN>, "d3 1 1 00 0 - EE");
+    is_found(exported::<Unpacker<EIGHT_FOR_SEVEN>>, "d3 1 1 00 0 - EE");
 }
 
 #[test]
 fn following_bytes_refused() {
-    is_found(unpacker::<FOLLOWING_REFUSED>, "d3 1 1 00 2 00 EE");
+    is_found(exported::<Unpacker<FOLLOWING_REFUSED>>, "d3 1 1 00 2 00 EE");
 }

@@ -7,7 +7,7 @@ use comparer::planes::counts;
 use comparer::unpacking::fixed;
 use comparer::unpacking::random::Random;
 use comparer::{Function, Library};
-use support::{first_refused, Search, Slices, RIGHT_PACK};
+use support::{exported, first_refused, Call, Search, Slices, RIGHT_PACK};
 
 const RIGHT: u8 = 0;
 const LAST_BYTE_CARRIED: u8 = 1;
@@ -146,27 +146,23 @@ fn row<const MISTAKE: u8>(slices: &Slices, reader: &mut Reader, row: usize, widt
 }
 
 /// An unpacker with one mistake, or with none.
-unsafe extern "C" fn unpacker<const MISTAKE: u8>(
-    src: *const u8,
-    src_len: usize,
-    dst: *mut u8,
-    dst_len: usize,
-    width: usize,
-    height: usize,
-) -> i64 {
-    let refused = refused_at_entry::<MISTAKE>(dst_len, width, height);
-    if refused != 0 {
-        return -refused;
-    }
-    let slices = Slices { src, src_len, dst, dst_len };
-    let mut reader = Reader { at: 0, last: 0 };
-    for at in 0..height {
-        let refused = row::<MISTAKE>(&slices, &mut reader, at, width);
+struct Unpacker<const MISTAKE: u8>;
+
+impl<const MISTAKE: u8> Call for Unpacker<MISTAKE> {
+    fn call(slices: Slices, width: usize, height: usize) -> i64 {
+        let refused = refused_at_entry::<MISTAKE>(slices.dst_len, width, height);
         if refused != 0 {
             return -refused;
         }
+        let mut reader = Reader { at: 0, last: 0 };
+        for at in 0..height {
+            let refused = row::<MISTAKE>(&slices, &mut reader, at, width);
+            if refused != 0 {
+                return -refused;
+            }
+        }
+        finish::<MISTAKE>(&slices, width * height, reader.at)
     }
-    finish::<MISTAKE>(&slices, width * height, reader.at)
 }
 
 /// What is done once all rows are read.
@@ -206,100 +202,100 @@ fn is_found(unpacker: Function, smallest: &str) {
 
 #[test]
 fn a_right_unpacker_has_no_difference() {
-    SEARCH.finds_nothing(with(unpacker::<RIGHT>));
+    SEARCH.finds_nothing(with(exported::<Unpacker<RIGHT>>));
 }
 
 #[test]
 fn the_last_byte_carried_into_the_next_row() {
-    is_found(unpacker::<LAST_BYTE_CARRIED>, "pu 3 2 100020000103 EE*6");
+    is_found(exported::<Unpacker<LAST_BYTE_CARRIED>>, "pu 3 2 100020000103 EE*6");
 }
 
 #[test]
 fn the_row_above_added_segment_by_segment() {
-    is_found(unpacker::<ADDED_BY_SEGMENT>, "pu 2 2 2000001001 EE*4");
+    is_found(exported::<Unpacker<ADDED_BY_SEGMENT>>, "pu 2 2 2000001001 EE*4");
 }
 
 #[test]
 fn run_field_1_as_a_short_run() {
-    is_found(unpacker::<RUN_ONE_IS_SHORT>, "pu 1 1 01 EE");
+    is_found(exported::<Unpacker<RUN_ONE_IS_SHORT>>, "pu 1 1 01 EE");
 }
 
 #[test]
 fn run_field_2_as_a_short_run() {
-    is_found(unpacker::<RUN_TWO_IS_SHORT>, "pu 2 1 02 EEEE");
+    is_found(exported::<Unpacker<RUN_TWO_IS_SHORT>>, "pu 2 1 02 EEEE");
 }
 
 #[test]
 fn the_width_tested_before_the_raw_bytes() {
-    is_found(unpacker::<WIDTH_BEFORE_RAW>, "pu 1 1 13 EE");
+    is_found(exported::<Unpacker<WIDTH_BEFORE_RAW>>, "pu 1 1 13 EE");
 }
 
 #[test]
 fn a_count_off_by_one() {
-    is_found(unpacker::<COUNT_OFF_BY_ONE>, "pu 1 1 1000 EE");
+    is_found(exported::<Unpacker<COUNT_OFF_BY_ONE>>, "pu 1 1 1000 EE");
 }
 
 #[test]
 fn a_byte_written_past_the_row() {
-    is_found(unpacker::<WRITES_PAST_THE_ROW>, "pu 1 1 1000 EE");
+    is_found(exported::<Unpacker<WRITES_PAST_THE_ROW>>, "pu 1 1 1000 EE");
 }
 
 #[test]
 fn a_byte_read_past_the_body() {
-    is_found(unpacker::<READS_PAST_THE_BODY>, "pu 1 1 10 EE");
+    is_found(exported::<Unpacker<READS_PAST_THE_BODY>>, "pu 1 1 10 EE");
 }
 
 #[test]
 fn a_body_written_to() {
-    is_found(unpacker::<WRITES_TO_THE_BODY>, "pu 1 1 1000 EE");
+    is_found(exported::<Unpacker<WRITES_TO_THE_BODY>>, "pu 1 1 1000 EE");
 }
 
 #[test]
 fn a_byte_written_before_the_plane() {
-    is_found(unpacker::<WRITES_BEFORE_THE_PLANE>, "pu 1 1 1000 EE");
+    is_found(exported::<Unpacker<WRITES_BEFORE_THE_PLANE>>, "pu 1 1 1000 EE");
 }
 
 #[test]
 fn refusal_10_before_1_and_2() {
-    is_found(unpacker::<ROOM_BEFORE_SIDES>, "pu 1 8193 - -");
+    is_found(exported::<Unpacker<ROOM_BEFORE_SIDES>>, "pu 1 8193 - -");
 }
 
 #[test]
 fn refusal_2_before_1() {
-    is_found(unpacker::<LARGE_BEFORE_ZERO>, "pu 0 8193 - -");
+    is_found(exported::<Unpacker<LARGE_BEFORE_ZERO>>, "pu 0 8193 - -");
 }
 
 #[test]
 fn a_product_of_sides_that_wraps() {
-    is_found(unpacker::<PRODUCT_WRAPS>, "pu 8192 8 - -");
+    is_found(exported::<Unpacker<PRODUCT_WRAPS>>, "pu 8192 8 - -");
 }
 
 #[test]
 fn sides_of_8193_taken() {
-    is_found(unpacker::<SIDES_OF_8193>, "pu 1 8193 - -");
+    is_found(exported::<Unpacker<SIDES_OF_8193>>, "pu 1 8193 - -");
 }
 
 #[test]
 fn a_refused_row_left_as_it_was() {
-    is_found(unpacker::<REFUSED_ROW_UNTOUCHED>, "pu 2 1 1000 EEEE");
+    is_found(exported::<Unpacker<REFUSED_ROW_UNTOUCHED>>, "pu 2 1 1000 EEEE");
 }
 
 #[test]
 fn a_refused_row_with_the_row_above_added() {
-    is_found(unpacker::<REFUSED_ROW_ADDED>, "pu 2 2 2000001001 EE*4");
+    is_found(exported::<Unpacker<REFUSED_ROW_ADDED>>, "pu 2 2 2000001001 EE*4");
 }
 
 #[test]
 fn control_byte_0_skipped() {
-    is_found(unpacker::<ZERO_CONTROL_SKIPPED>, "pu 1 1 00 EE");
+    is_found(exported::<Unpacker<ZERO_CONTROL_SKIPPED>>, "pu 1 1 00 EE");
 }
 
 #[test]
 fn bytes_beyond_the_plane_cleared() {
-    is_found(unpacker::<REST_CLEARED>, "pu 1 1 1000 EEEE");
+    is_found(exported::<Unpacker<REST_CLEARED>>, "pu 1 1 1000 EEEE");
 }
 
 #[test]
 fn following_bytes_refused() {
-    is_found(unpacker::<BODY_MUST_END>, "pu 1 1 100000 EE");
+    is_found(exported::<Unpacker<BODY_MUST_END>>, "pu 1 1 100000 EE");
 }

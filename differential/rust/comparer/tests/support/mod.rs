@@ -49,6 +49,23 @@ impl Slices {
     }
 }
 
+/// A packer or an unpacker over slices.
+pub trait Call {
+    fn call(slices: Slices, width: usize, height: usize) -> i64;
+}
+
+/// The same as a library has it.
+pub unsafe extern "C" fn exported<C: Call>(
+    src: *const u8,
+    src_len: usize,
+    dst: *mut u8,
+    dst_len: usize,
+    width: usize,
+    height: usize,
+) -> i64 {
+    C::call(Slices { src, src_len, dst, dst_len }, width, height)
+}
+
 /// What document 01 and the Rust do with a case.
 fn done_right(case: Case<'_>, after: &mut [u8]) -> i64 {
     match case.refused_at_entry() {
@@ -57,37 +74,29 @@ fn done_right(case: Case<'_>, after: &mut [u8]) -> i64 {
     }
 }
 
-unsafe extern "C" fn right_unpack(
-    src: *const u8,
-    src_len: usize,
-    dst: *mut u8,
-    dst_len: usize,
-    width: usize,
-    height: usize,
-) -> i64 {
-    let mut slices = Slices { src, src_len, dst, dst_len };
-    let before = slices.destination().to_vec();
-    let body = slices.source().to_vec();
-    done_right(Case::unpack(width, height, &body, &before), slices.destination())
+pub struct RightUnpack;
+
+impl Call for RightUnpack {
+    fn call(mut slices: Slices, width: usize, height: usize) -> i64 {
+        let before = slices.destination().to_vec();
+        let body = slices.source().to_vec();
+        done_right(Case::unpack(width, height, &body, &before), slices.destination())
+    }
 }
 
-unsafe extern "C" fn right_pack(
-    src: *const u8,
-    src_len: usize,
-    dst: *mut u8,
-    dst_len: usize,
-    width: usize,
-    height: usize,
-) -> i64 {
-    let mut slices = Slices { src, src_len, dst, dst_len };
-    let before = slices.destination().to_vec();
-    let samples = slices.source().to_vec();
-    done_right(Case::pack(width, height, &samples, &before), slices.destination())
+pub struct RightPack;
+
+impl Call for RightPack {
+    fn call(mut slices: Slices, width: usize, height: usize) -> i64 {
+        let before = slices.destination().to_vec();
+        let samples = slices.source().to_vec();
+        done_right(Case::pack(width, height, &samples, &before), slices.destination())
+    }
 }
 
 /// An unpacker and a packer without a mistake.
-pub const RIGHT_UNPACK: Function = right_unpack;
-pub const RIGHT_PACK: Function = right_pack;
+pub const RIGHT_UNPACK: Function = exported::<RightUnpack>;
+pub const RIGHT_PACK: Function = exported::<RightPack>;
 
 /// The order in which the refusals at entry are tested: zero, large, short.
 pub fn first_refused(tests: [(bool, i64); 3], order: [usize; 3]) -> i64 {
