@@ -1,0 +1,48 @@
+-- The planes of a picture (document 01, "Unpacking a picture"): one list, in the order of the body, each with its sides and with its
+-- offset in the work area.
+use Prim.Native.Nat.{ℕ, _+_, _*_, _/_}
+use mathlib.Core.Bool.{Bool, false}
+use mathlib.Core.List.{List, [], _∷_, _++_}
+use Rattle.rle_format.specs.Choice.{choose}
+use Rattle.bitmap_format.specs.declared.BitmapStreamHeader.{BitmapStreamHeader}
+use Rattle.bitmap_format.specs.declared.ColorPlaneDefinition.{ColorPlaneDefinition}
+use Rattle.bitmap_format.specs.declared.ColorPlaneDefinition.the-variants.{Argb, AYCoCg}
+
+pub record PlaneAt : Type 0 where
+  pub width : ℕ
+  pub height : ℕ
+  pub offset : ℕ
+
+abbrev pub planeAt : (width height offset : ℕ) → PlaneAt
+planeAt w h o = record { width = w; height = h; offset = o }
+
+-- "ARGB is never subsampled"
+abbrev pub subsampled : ColorPlaneDefinition → Bool
+subsampled Argb = false
+subsampled (AYCoCg level subsampling) = subsampling
+
+-- "A chroma plane has the same, or with subsampling (width/2 rounded up) × (height/2 rounded up)"
+unfoldable pub chromaSide : (subsampling : Bool) (side : ℕ) → ℕ
+chromaSide subsampling side = choose subsampling ((side + 1) / 2) side
+
+-- R or Y: "0", G or Co: "full", B or Cg: "full + chroma"
+unfoldable pub firstPlane : (width height : ℕ) → PlaneAt
+firstPlane width height = planeAt width height 0
+
+unfoldable pub secondPlane : (subsampling : Bool) (width height : ℕ) → PlaneAt
+secondPlane s width height = planeAt (chromaSide s width) (chromaSide s height) (width * height)
+
+unfoldable pub thirdPlane : (subsampling : Bool) (width height : ℕ) → PlaneAt
+thirdPlane s width height =
+    planeAt (chromaSide s width) (chromaSide s height) (width * height + chromaSide s width * chromaSide s height)
+
+unfoldable pub colourPlanes : (subsampling : Bool) (width height : ℕ) → List PlaneAt
+colourPlanes s width height = firstPlane width height ∷ secondPlane s width height ∷ thirdPlane s width height ∷ []
+
+-- "alpha, if flagged, is unpacked first, to the start of the work area"
+unfoldable pub alphaPlanes : (alpha : Bool) (width height : ℕ) → List PlaneAt
+alphaPlanes alpha width height = choose alpha (planeAt width height 0 ∷ []) []
+
+unfoldable pub planesOf : BitmapStreamHeader → (width height : ℕ) → List PlaneAt
+planesOf header width height =
+    alphaPlanes (header .«use_alpha») width height ++ colourPlanes (subsampled (header .«color_plane_definition»)) width height
