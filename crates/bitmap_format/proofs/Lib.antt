@@ -1,1 +1,4 @@
 pub mod Examples
+pub mod Integers
+pub mod Colour
+pub mod Image

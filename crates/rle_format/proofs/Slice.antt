@@ -180,3 +180,15 @@ put-over d₀ d at vs h e =
     let back : drop (at + length vs) d ≡ drop (length (take at d ++ vs)) d₀ =
     sym (drop-drop (length vs) at d) ∙ ap (drop (length vs)) e ∙ drop-drop (length vs) at d₀ ∙ rw n in
     ap (λ (l : List ℕ). take at d ++ (vs ++ l)) back ∙ sym (append-assoc (take at d) vs (drop (length (take at d ++ vs)) d₀))
+
+-- a write right after the first places that were written
+pub over-more : (d xs ys : List ℕ) (n : ℕ) → length xs ≡ n → putAt (over d xs) n ys ≡ over d (xs ++ ys)
+unfolding over putAt
+over-more d xs ys n l =
+    let front : take n (xs ++ drop (length xs) d) ≡ xs = take-at xs (drop (length xs) d) n l in
+    let back : drop (n + length ys) (xs ++ drop (length xs) d) ≡ drop (length (xs ++ ys)) d =
+    ap (λ (k : ℕ). drop (k + length ys) (xs ++ drop (length xs) d)) (sym l)
+    ∙ drop-append-add xs (drop (length xs) d) (length ys)
+    ∙ drop-drop (length ys) (length xs) d
+    ∙ ap (λ (k : ℕ). drop k d) (sym (length-append xs ys)) in
+    (λ i. front i ++ (ys ++ back i)) ∙ sym (append-assoc xs ys (drop (length (xs ++ ys)) d))
