@@ -1,4 +1,5 @@
 pub mod Examples
+pub mod Sizes
 pub mod Integers
 pub mod Colour
 pub mod Image

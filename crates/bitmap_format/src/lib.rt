@@ -1,5 +1,15 @@
 // A picture of RDP 6.0 (MS-RDPEGDI 2.2.2.5.1): its header record, and the answer of unpacking it.
 // What is right is said in specs/; the decoder's contracts cite it.
+mod plane_sizes;
+
+ghost use mathlib.Core.Path.{_≡_};
+ghost use Prim.Native.Nat.{ℕ};
+ghost use Rattle.rle_format.specs.Sides.{withinSides};
+ghost use Rattle.bitmap_format.specs.Planes.{subsampled, chromaSide};
+ghost use Rattle.bitmap_format.specs.Sizes.{leastBody, workSize, imageSize};
+use plane_sizes::is_within;
+use plane_sizes::min_color_planes_size;
+use plane_sizes::min_plane_size;
 use rle_format::Refusal;
 
 // Document 01, "What is handed over": "The definition is ARGB, or AYCoCg with a loss level and a subsampling flag."
@@ -29,4 +39,69 @@ pub struct Rgb {
 pub enum Decoded {
     Written(usize),
     Refused(Refusal),
+}
+
+// Whether the chroma planes are subsampled.
+pub fn has_subsampled_chroma(definition: ColorPlaneDefinition) -> bool
+    ensures { λ r. ⌜ r ≡ subsampled definition ⌝ }
+{
+    match definition {
+        ColorPlaneDefinition::Argb => false,
+        ColorPlaneDefinition::AYCoCg {
+            color_loss_level: _,
+            use_chroma_subsampling,
+        } => use_chroma_subsampling,
+    }
+}
+
+// A side of a chroma plane, by that of the picture. The halves are rounded up in a form that no side overflows.
+pub fn chroma_side(subsampling: bool, side: usize) -> usize
+    ensures { λ r. ⌜ r ≡ chromaSide subsampling side ⌝ }
+{
+    if subsampling {
+        return side / 2 + side % 2;
+    }
+    side
+}
+
+// The bytes that a body must have, or 0 for sides that no picture has.
+pub fn min_body_size(header: BitmapStreamHeader, width: usize, height: usize) -> usize
+    ensures { λ r. ⌜ r ≡ withinSides (λ (_ : ℕ). 0) width height (leastBody header width height) ⌝ }
+{
+    if !is_within(width, height) {
+        return 0;
+    }
+    let rle = header.enable_rle_compression;
+    let definition = header.color_plane_definition;
+    let subsampling = has_subsampled_chroma(definition);
+    let color = min_color_planes_size(rle, subsampling, width, height);
+    if header.use_alpha {
+        return min_plane_size(rle, width, height) + color;
+    }
+    color
+}
+
+// The bytes that the work area must have, or 0 for sides that no picture has. A raw picture needs none.
+pub fn work_size(header: BitmapStreamHeader, width: usize, height: usize) -> usize
+    ensures { λ r. ⌜ r ≡ withinSides (λ (_ : ℕ). 0) width height (workSize header width height) ⌝ }
+{
+    if !is_within(width, height) {
+        return 0;
+    }
+    if header.enable_rle_compression {
+        let definition = header.color_plane_definition;
+        let subsampling = has_subsampled_chroma(definition);
+        return min_color_planes_size(false, subsampling, width, height);
+    }
+    0
+}
+
+// The bytes that the image must have, or 0 for sides that no picture has.
+pub fn image_size(width: usize, height: usize) -> usize
+    ensures { λ r. ⌜ r ≡ withinSides (λ (_ : ℕ). 0) width height (imageSize width height) ⌝ }
+{
+    if !is_within(width, height) {
+        return 0;
+    }
+    3 * width * height
 }

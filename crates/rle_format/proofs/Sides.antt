@@ -1,7 +1,11 @@
 -- The tests of every entry, one after the other.
-use mathlib.Core.Path.{_≡_}
+use mathlib.Core.Path.{_≡_, refl}
+use mathlib.Core.Bool.{Bool, true, false, _||_}
 use Prim.Native.Nat.{ℕ, _≤_, _<_}
-use borrow.Author.Tests.{lt-ltb, le-ltb, eq-eqb, ne-eqb}
+use native.Mathlib.Omega.{arith}
+use lib.Dec.{ltb, eqb}
+use borrow.Author.Tests.{lt-ltb, le-ltb, eq-eqb, ne-eqb, eqb-false, ltb-false}
+use Rattle.rle_format.specs.Choice.{choose}
 use Rattle.rle_format.specs.Sides.{withinSides}
 
 module _ {ℓ} {A : Type ℓ} (refuse : ℕ → A) (w h : ℕ) (inside : A) where
@@ -27,3 +31,40 @@ module _ {ℓ} {A : Type ℓ} (refuse : ℕ → A) (w h : ℕ) (inside : A) wher
         pub in-sides : h ≤ 8192 → withinSides refuse w h inside ≡ inside
         unfolding withinSides
         in-sides lh = simp (ne-eqb w 0 hw, ne-eqb h 0 hh, le-ltb 8192 w lw, le-ltb 8192 h lh)
+
+-- the tests as one answer, yes or no
+abbrev pub sidesPass : (w h : ℕ) → Bool
+sidesPass w h = withinSides (λ (_ : ℕ). false) w h true
+
+-- what sides that pass are
+pub record Within (w h : ℕ) : Type 0 where
+  pub some-width : w ≡ 0 → ⊥
+  pub some-height : h ≡ 0 → ⊥
+  pub wide : w ≤ 8192
+  pub high : h ≤ 8192
+
+pub sides-in : (w h : ℕ) → sidesPass w h ≡ true → Within w h
+unfolding withinSides
+sides-in w h e = go (eqb w 0) (eqb h 0) (ltb 8192 w) (ltb 8192 h) refl refl refl refl e
+  where
+    go : (a b c d : Bool) → eqb w 0 ≡ a → eqb h 0 ≡ b → ltb 8192 w ≡ c → ltb 8192 h ≡ d → choose (a || b) false (choose (c || d) false true) ≡ true → Within w h
+    go true b c d ea eb ec ed e = let z : _≡_ {A = ℕ} 0 1 = cc in absurd (omega arith)
+    go false true c d ea eb ec ed e = let z : _≡_ {A = ℕ} 0 1 = cc in absurd (omega arith)
+    go false false true d ea eb ec ed e = let z : _≡_ {A = ℕ} 0 1 = cc in absurd (omega arith)
+    go false false false true ea eb ec ed e = let z : _≡_ {A = ℕ} 0 1 = cc in absurd (omega arith)
+    go false false false false ea eb ec ed e =
+        record { some-width = eqb-false w 0 ea; some-height = eqb-false h 0 eb; wide = ltb-false 8192 w ec; high = ltb-false 8192 h ed }
+
+-- they let through what follows
+pub sides-pass {ℓ} : {A : Type ℓ} (refuse : ℕ → A) (w h : ℕ) (inside : A) → Within w h → withinSides refuse w h inside ≡ inside
+sides-pass refuse w h inside p = in-sides refuse w h inside (p .some-width) (p .some-height) (p .wide) (p .high)
+
+-- sides that fail are refused, whatever a refusal comes to
+pub sides-out {ℓ} : {A : Type ℓ} (refusal : A) (w h : ℕ) (inside : A) → sidesPass w h ≡ false → withinSides (λ (_ : ℕ). refusal) w h inside ≡ refusal
+unfolding withinSides
+sides-out refusal w h inside e = go (eqb w 0 || eqb h 0) (ltb 8192 w || ltb 8192 h) e
+  where
+    go : (s t : Bool) → choose s false (choose t false true) ≡ false → choose s refusal (choose t refusal inside) ≡ refusal
+    go true t e = refl
+    go false true e = refl
+    go false false e = let z : _≡_ {A = ℕ} 0 1 = cc in absurd (omega arith)

@@ -1,0 +1,143 @@
+-- The laws of the sizes: the sums over the list of planes as sums by the sides, and how large they are.
+use Prim.Native.Nat.{ℕ, _+_, _*_, _/_, _%_, _≤_}
+use mathlib.Core.Bool.{Bool, true, false}
+use mathlib.Core.Path.{_≡_, refl, sym, ap, _∙_}
+use mathlib.Core.List.{_++_}
+use native.Mathlib.Nat.{mul-le-mul, zero-add}
+use native.Mathlib.Omega.{arith}
+use Rattle.rle_format.specs.Choice.{choose}
+use Rattle.rle_format.proofs.Plane.{area-most}
+use Rattle.bitmap_format.specs.declared.BitmapStreamHeader.{BitmapStreamHeader}
+use Rattle.bitmap_format.specs.Planes.{PlaneAt, planeAt, subsampled, chromaSide, firstPlane, secondPlane, thirdPlane, colourPlanes, alphaPlanes, planesOf}
+use Rattle.bitmap_format.specs.Sizes.{samples, leastOf, total, leastBody, workSize}
+
+-- ---- a side of a chroma plane
+
+pub half-up : (s : Bool) (side : ℕ) → s ≡ true → side / 2 + side % 2 ≡ chromaSide s side
+unfolding chromaSide
+half-up true side e = omega arith
+half-up false side e = let z : _≡_ {A = ℕ} 0 1 = cc in absurd (omega arith)
+
+pub side-whole : (s : Bool) (side : ℕ) → s ≡ false → side ≡ chromaSide s side
+unfolding chromaSide
+side-whole s side e = rw e
+
+pub side-most : (s : Bool) (side : ℕ) → chromaSide s side ≤ side
+unfolding chromaSide
+side-most true side = omega arith
+side-most false side = omega arith
+
+-- ---- a plane
+
+-- the least size of a plane of these sides: where it stands in the work area does not matter
+abbrev pub least : (rle : Bool) (w h : ℕ) → ℕ
+least rle w h = leastOf rle (planeAt w h 0)
+
+pub least-anywhere : (rle : Bool) (w h o : ℕ) → leastOf rle (planeAt w h o) ≡ least rle w h
+least-anywhere true w h o = refl
+least-anywhere false w h o = refl
+
+pub least-most : (rle : Bool) (w h : ℕ) → w ≤ 8192 → h ≤ 8192 → least rle w h ≤ 67108864
+least-most true w h lw lh =
+    let a : (w + 46) / 47 ≤ 8192 = omega arith in
+    mul-le-mul lh a
+least-most false w h lw lh = area-most w h lw lh
+
+-- a chroma plane is no larger than the picture
+pub chroma-most : (rle s : Bool) (w h : ℕ) → w ≤ 8192 → h ≤ 8192 → least rle (chromaSide s w) (chromaSide s h) ≤ 67108864
+chroma-most rle s w h lw lh =
+    let a : chromaSide s w ≤ 8192 = omega (arith, side-most s w) in
+    let b : chromaSide s h ≤ 8192 = omega (arith, side-most s h) in
+    least-most rle (chromaSide s w) (chromaSide s h) a b
+
+-- ---- the planes of a picture
+
+-- the colour planes: one full, two of chroma
+pub colour-is : (rle s : Bool) (w h : ℕ)
+    → total (leastOf rle) (colourPlanes s w h) ≡ least rle w h + 2 * least rle (chromaSide s w) (chromaSide s h)
+unfolding total colourPlanes firstPlane secondPlane thirdPlane
+colour-is rle s w h = omega (
+  arith,
+  least-anywhere rle (chromaSide s w) (chromaSide s h) (w * h),
+  least-anywhere rle (chromaSide s w) (chromaSide s h) (w * h + chromaSide s w * chromaSide s h),
+)
+
+pub colour-most : (rle s : Bool) (w h : ℕ) → w ≤ 8192 → h ≤ 8192 → total (leastOf rle) (colourPlanes s w h) ≤ 201326592
+colour-most rle s w h lw lh = omega (arith, colour-is rle s w h, least-most rle w h lw lh, chroma-most rle s w h lw lh)
+
+-- the least body: alpha if flagged, and the colour planes
+pub with-alpha : (header : BitmapStreamHeader) (w h : ℕ)
+    → leastBody header w h
+    ≡ choose (header .«use_alpha») (least (header .«enable_rle_compression») w h) 0
+    + total (leastOf (header .«enable_rle_compression»)) (colourPlanes (subsampled (header .«color_plane_definition»)) w h)
+unfolding leastBody planesOf alphaPlanes total
+with-alpha header w h = go (header .«use_alpha»)
+  where
+    go : (alpha : Bool)
+        → total (leastOf (header .«enable_rle_compression»)) (alphaPlanes alpha w h ++ colourPlanes (subsampled (header .«color_plane_definition»)) w h)
+        ≡ choose alpha (least (header .«enable_rle_compression») w h) 0
+        + total (leastOf (header .«enable_rle_compression»)) (colourPlanes (subsampled (header .«color_plane_definition»)) w h)
+    go true = omega arith
+    go false = omega arith
+
+-- the same by the sides
+pub least-body-is : (header : BitmapStreamHeader) (w h : ℕ)
+    → leastBody header w h
+    ≡ choose (header .«use_alpha») (least (header .«enable_rle_compression») w h) 0
+    + (least (header .«enable_rle_compression») w h
+    + 2
+    * least (header .«enable_rle_compression») (chromaSide (subsampled (header .«color_plane_definition»)) w) (chromaSide (subsampled (header .«color_plane_definition»)) h))
+least-body-is header w h =
+    with-alpha header w h
+    ∙ ap (λ (n : ℕ). choose (header .«use_alpha») (least (header .«enable_rle_compression») w h) 0 + n) (colour-is (header .«enable_rle_compression») (subsampled (header .«color_plane_definition»)) w h)
+
+-- the work area of an RLE picture: the samples of the colour planes
+pub work-size-is : (header : BitmapStreamHeader) (w h : ℕ) → header .«enable_rle_compression» ≡ true
+    → workSize header w h
+    ≡ w * h + 2 * (chromaSide (subsampled (header .«color_plane_definition»)) w * chromaSide (subsampled (header .«color_plane_definition»)) h)
+unfolding workSize
+work-size-is header w h e =
+    ap (λ (t : Bool). choose t (total samples (colourPlanes (subsampled (header .«color_plane_definition»)) w h)) 0) e
+    ∙ colour-is false (subsampled (header .«color_plane_definition»)) w h
+
+-- a raw picture needs none
+pub no-work : (header : BitmapStreamHeader) (w h : ℕ) → header .«enable_rle_compression» ≡ false → workSize header w h ≡ 0
+unfolding workSize
+no-work header w h e =
+    ap (λ (t : Bool). choose t (total samples (colourPlanes (subsampled (header .«color_plane_definition»)) w h)) 0) e
+
+-- ---- what the code adds up
+
+-- one full plane and two of chroma, whose sides are s's
+pub colour-sum : (rle s : Bool) (w h cw ch full chroma : ℕ) → cw ≡ chromaSide s w → ch ≡ chromaSide s h → full ≡ least rle w h → chroma ≡ least rle cw ch
+    → full + 2 * chroma ≡ total (leastOf rle) (colourPlanes s w h)
+colour-sum rle s w h cw ch full chroma ew eh ef ec =
+    (λ i. ef i + 2 * (ec ∙ (λ j. least rle (ew j) (eh j))) i) ∙ sym (colour-is rle s w h)
+
+module _ (header : BitmapStreamHeader) (w h : ℕ) (s : Bool) (es : s ≡ subsampled (header .«color_plane_definition»)) where
+  colour-of : (rle : Bool) (colour : ℕ) → colour ≡ total (leastOf rle) (colourPlanes s w h)
+      → colour ≡ total (leastOf rle) (colourPlanes (subsampled (header .«color_plane_definition»)) w h)
+  colour-of rle colour e = e ∙ ap (λ (t : Bool). total (leastOf rle) (colourPlanes t w h)) es
+
+  body-of : (alpha : Bool) (colour : ℕ) → header .«use_alpha» ≡ alpha → colour ≡ total (leastOf (header .«enable_rle_compression»)) (colourPlanes s w h)
+      → choose alpha (least (header .«enable_rle_compression») w h) 0 + colour ≡ leastBody header w h
+  body-of alpha colour e ec =
+      let colours : colour ≡ total (leastOf (header .«enable_rle_compression»)) (colourPlanes (subsampled (header .«color_plane_definition»)) w h) =
+      colour-of (header .«enable_rle_compression») colour ec in
+      (λ i. choose (sym e i) (least (header .«enable_rle_compression») w h) 0 + colours i) ∙ sym (with-alpha header w h)
+
+  -- the body of a picture with alpha, and of one without
+  pub body-alpha : (full colour : ℕ) → header .«use_alpha» ≡ true → full ≡ least (header .«enable_rle_compression») w h
+      → colour ≡ total (leastOf (header .«enable_rle_compression»)) (colourPlanes s w h) → full + colour ≡ leastBody header w h
+  body-alpha full colour e ef ec = (λ i. ef i + colour) ∙ body-of true colour e ec
+
+  pub body-plain : (colour : ℕ) → header .«use_alpha» ≡ false → colour ≡ total (leastOf (header .«enable_rle_compression»)) (colourPlanes s w h)
+      → colour ≡ leastBody header w h
+  body-plain colour e ec = sym (zero-add colour) ∙ body-of false colour e ec
+
+  -- the work area of an RLE picture
+  pub work-rle : (colour : ℕ) → header .«enable_rle_compression» ≡ true → colour ≡ total (leastOf false) (colourPlanes s w h) → colour ≡ workSize header w h
+  unfolding workSize
+  work-rle colour e ec =
+      colour-of false colour ec
+      ∙ sym (ap (λ (t : Bool). choose t (total samples (colourPlanes (subsampled (header .«color_plane_definition»)) w h)) 0) e)

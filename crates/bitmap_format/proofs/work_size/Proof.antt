@@ -1,0 +1,50 @@
+-- `work_size`: 0 for sides that fail their tests and for a raw picture, else the samples of the colour planes. Assumes nothing.
+use mathlib.Core.Path.{sym, _∙_}
+use Prim.Native.Nat.{ℕ}
+use borrow.Author.Tests.{not-true, not-false}
+use Rattle.rle_format.proofs.Sides.{Within, sides-in, sides-pass, sides-out}
+use Rattle.bitmap_format.specs.Sizes.{workSize}
+use Rattle.bitmap_format.proofs.Sizes.{work-rle, no-work}
+use borrow.Author.Needs.{needs}
+use Rattle.bitmap_format.proofs.work_size.Statement.{statement}
+use Rattle.bitmap_format.proofs.work_size.Tie as tie
+
+within : (k : tie.Else1) → Within (k .before .before .args .width) (k .before .before .args .height)
+within k = sides-in _ _ (sym (k .before .is-within .ensures) ∙ not-false _ (k .if1 .left))
+
+is-within-requires : tie.Need-is-within-requires
+is-within-requires c κs = search needs
+
+returns : tie.Need-returns
+returns c =
+    let a = c .before .before .args in
+    sym (sides-out 0 (a .width) (a .height) (workSize (a .header) (a .width) (a .height)) (sym (c .before .is-within .ensures) ∙ not-true _ (c .if1 .taken)))
+
+has-subsampled-chroma-requires : tie.Need-has-subsampled-chroma-requires
+has-subsampled-chroma-requires c κs = search needs
+
+min-color-planes-size-requires : tie.Need-min-color-planes-size-requires
+min-color-planes-size-requires c κs = (within (c .before .before) .wide, within (c .before .before) .high)
+
+returns-2 : tie.Need-returns-2
+returns-2 c =
+    let t = c .before .before in
+    let a = t .before .before .before .args in
+    work-rle (a .header) (a .width) (a .height) (c .before .has-subsampled-chroma .result) (c .before .has-subsampled-chroma .ensures) (c .min-color-planes-size .result) (t .if2 .taken) (c .min-color-planes-size .ensures)
+    ∙ sym (sides-pass (λ (_ : ℕ). 0) (a .width) (a .height) (workSize (a .header) (a .width) (a .height)) (within (t .before)))
+
+returns-3 : tie.Need-returns-3
+returns-3 c =
+    let a = c .before .before .before .args in
+    sym (sides-pass (λ (_ : ℕ). 0) (a .width) (a .height) (workSize (a .header) (a .width) (a .height)) (within (c .before)) ∙ no-work (a .header) (a .width) (a .height) (c .if2 .left))
+
+pub work-size-spec : {M : Type 1} → statement M
+work-size-spec =
+    tie.close
+    (tie.spec
+    is-within-requires
+    returns
+    has-subsampled-chroma-requires
+    min-color-planes-size-requires
+    returns-2
+    returns-3)
