@@ -3,3 +3,4 @@ pub mod Sizes
 pub mod Integers
 pub mod Colour
 pub mod Image
+pub mod UnpackPlanes

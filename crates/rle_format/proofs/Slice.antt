@@ -117,6 +117,12 @@ put-back-is d ys a =
     let none : drop (length d - a) (drop a d) ≡ [] = drop-of-length-le (drop a d) short in
     ap (λ (l : List ℕ). take a d ++ (ys ++ l)) none ∙ ap (λ (l : List ℕ). take a d ++ l) (append-nil ys)
 
+-- d is as long as before, if the part came back as long as it was lent
+pub length-put-back : (d ys : List ℕ) (a : ℕ) → length ys ≡ length (tail d a) → length (put-back d a ys) ≡ length d
+length-put-back d ys a e =
+    let n : length (tail d a) ≡ length d - a = ap length (tail-is d a) ∙ length-drop a d in
+    simp (length-append, length-take, length-drop) (omega arith)
+
 -- what the callee wrote from its first place on, as a write of the whole
 pub lent-over : (d ys vs : List ℕ) (a : ℕ) → ys ≡ over (tail d a) vs → put-back d a ys ≡ putAt d a vs
 unfolding putAt over
