@@ -33,10 +33,10 @@ module _ (planes : List ℕ) (width height row first second third : ℕ) where
   unfolding imageRow colourAt firstPlane secondPlane thirdPlane chromaSide
   argb-row-is e₁ e₂ e₃ =
       λ i. each width
-          (λ (column : ℕ).
-          rgb24
-          (rgb (lent-sample planes first (firstPlane width height) row (e₁ ∙ sym (zero-add (row * width))) column i) (lent-sample planes second (secondPlane false width height) row e₂ column i)
-          (lent-sample planes third (thirdPlane false width height) row e₃ column i)))
+      (λ (column : ℕ).
+      rgb24
+      (rgb (lent-sample planes first (firstPlane width height) row (e₁ ∙ sym (zero-add (row * width))) column i) (lent-sample planes second (secondPlane false width height) row e₂ column i)
+      (lent-sample planes third (thirdPlane false width height) row e₃ column i)))
 
   pub aycocg-row-is : (alpha : Bool) (level : ℕ) (s : Bool) (cw ch place : ℕ) → cw ≡ chromaSide s width → ch ≡ chromaSide s height → place ≡ chromaPlace s row
       → first ≡ row * width → second ≡ width * height + place * cw → third ≡ width * height + cw * ch + place * cw
@@ -48,11 +48,11 @@ module _ (planes : List ℕ) (width height row first second third : ℕ) where
       let p₃ : third ≡ width * height + chromaSide s width * chromaSide s height + chromaPlace s row * chromaSide s width =
       e₃ ∙ (λ i. width * height + ew i * eh i + ep i * ew i) in
       λ i. each width
-          (λ (column : ℕ).
-          rgb24
-          (aycocgColour alpha level (lent-sample planes first (firstPlane width height) row p₁ column i)
-          (lent-sample planes second (secondPlane s width height) (chromaPlace s row) p₂ (chromaPlace s column) i)
-          (lent-sample planes third (thirdPlane s width height) (chromaPlace s row) p₃ (chromaPlace s column) i)))
+      (λ (column : ℕ).
+      rgb24
+      (aycocgColour alpha level (lent-sample planes first (firstPlane width height) row p₁ column i)
+      (lent-sample planes second (secondPlane s width height) (chromaPlace s row) p₂ (chromaPlace s column) i)
+      (lent-sample planes third (thirdPlane s width height) (chromaPlace s row) p₃ (chromaPlace s column) i)))
 
 -- ---- the room of a row
 

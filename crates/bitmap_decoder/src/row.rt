@@ -22,13 +22,7 @@ fn put_rgb24(dst: &mut [u8], at: usize, color: Rgb)
 }
 
 // Writes a row of an ARGB picture.
-pub(crate) fn write_argb_row(
-    red: &[u8],
-    green: &[u8],
-    blue: &[u8],
-    dst: &mut [u8],
-    width: usize,
-)
+pub(crate) fn write_argb_row(red: &[u8], green: &[u8], blue: &[u8], dst: &mut [u8], width: usize)
     requires { ⌜ (width ≤ length (now red)) × (width ≤ length (now green)) × (width ≤ length (now blue)) × (3 * width ≤ length (now dst)) ⌝ }
     ensures { λ _. ⌜ now (dst .exit) ≡ over (now (dst .entry)) (argbRow (now (red .entry)) (now (green .entry)) (now (blue .entry)) width) ⌝ }
 {
@@ -66,14 +60,7 @@ fn write_full_row(
 
 // Writes so many pairs of pixels, each of which shares its chroma samples. Both colours are made before the first is written, so
 // that the samples are read once.
-fn write_pairs(
-    params: AYCoCgParams,
-    y: &[u8],
-    co: &[u8],
-    cg: &[u8],
-    dst: &mut [u8],
-    pairs: usize,
-)
+fn write_pairs(params: AYCoCgParams, y: &[u8], co: &[u8], cg: &[u8], dst: &mut [u8], pairs: usize)
     requires { ⌜ ((1 ≤ params .«color_loss_level») × (params .«color_loss_level» ≤ 7)) × (2 * pairs ≤ length (now y)) × (pairs ≤ length (now co)) × (pairs ≤ length (now cg)) × (6 * pairs ≤ length (now dst)) ⌝ }
     ensures { λ _. ⌜ now (dst .exit) ≡ over (now (dst .entry)) (aycocgRow (params .alpha) (params .«color_loss_level») true (now (y .entry)) (now (co .entry)) (now (cg .entry)) (2 * pairs)) ⌝ }
 {

@@ -119,9 +119,12 @@ write-argb-row-requires c κs =
     let l = c .before .before .before .before .before .loop in
     let R = room ((c .before .before .before .before)) in
     let full = a .width * a .height in
-    let start = l .row * a .width in
-    (tail-room (a .planes .now) start (a .width) (omega (arith, R)), tail-room (a .planes .now) (full + start) (a .width) (omega (arith, R)), tail-room (a .planes .now) (full + full + start) (a .width) (omega (arith, R)),
-    tail-room (l .image) (l .row * (3 * a .width)) (3 * a .width) (fits ((c .before .before .before .before))))
+    let start = l .row * a .width in (
+      tail-room (a .planes .now) start (a .width) (omega (arith, R)),
+      tail-room (a .planes .now) (full + start) (a .width) (omega (arith, R)),
+      tail-room (a .planes .now) (full + full + start) (a .width) (omega (arith, R)),
+      tail-room (l .image) (l .row * (3 * a .width)) (3 * a .width) (fits ((c .before .before .before .before))),
+    )
 
 -- src/image.rt:46:15
 add-row : tie.Need-add-row Inv-loop μ-loop

@@ -152,11 +152,13 @@ write-aycocg-row-requires c κs =
     let cw = c .before .before .before .before .before .before .before .before .chroma-side .result in
     let chroma = c .before .before .before .before .chroma-place .result * cw in
     let second = a .width * a .height in
-    let third = second + cw * c .before .before .before .before .before .before .before .chroma-side2 .result in
-    (s .pre .0, tail-room (a .planes .now) (l .row * a .width) (a .width) (omega (arith, R)),
-    rw (← c .before .before .before .before .before .before .before .before .chroma-side .ensures) (tail-room (a .planes .now) (second + chroma) cw (omega (arith, R))),
-    rw (← c .before .before .before .before .before .before .before .before .chroma-side .ensures) (tail-room (a .planes .now) (third + chroma) cw (omega (arith, R))),
-    tail-room (l .image) (l .row * (3 * a .width)) (3 * a .width) (fits ((c .before .before .before .before))))
+    let third = second + cw * c .before .before .before .before .before .before .before .chroma-side2 .result in (
+      s .pre .0,
+      tail-room (a .planes .now) (l .row * a .width) (a .width) (omega (arith, R)),
+      rw (← c .before .before .before .before .before .before .before .before .chroma-side .ensures) (tail-room (a .planes .now) (second + chroma) cw (omega (arith, R))),
+      rw (← c .before .before .before .before .before .before .before .before .chroma-side .ensures) (tail-room (a .planes .now) (third + chroma) cw (omega (arith, R))),
+      tail-room (l .image) (l .row * (3 * a .width)) (3 * a .width) (fits ((c .before .before .before .before))),
+    )
 
 -- src/image.rt:75:15
 add-row : tie.Need-add-row Inv-loop μ-loop
@@ -171,10 +173,12 @@ loop-again : tie.Need-loop-again Inv-loop μ-loop
 loop-again c =
     let a = c .before .before .before .before .before .before .before .before .before .before .before .before .before .before .args in
     let l = c .before .before .before .before .before .before .before .before .before .loop in
-    let w = c .before .before .write-aycocg-row in
-    (omega arith, image-turn _ (l .image) _ _ (l .row) (a .width) _ (l .inv .1) (w .ensures)
-    (aycocg-row-is (a .planes .now) (a .width) (a .height) (l .row) _ _ _ (a .params .alpha) (a .params .«color_loss_level») (a .params .«chroma_subsampling») (c .before .before .before .before .before .before .before .before .before .before .before .chroma-side .result) (c .before .before .before .before .before .before .before .before .before .before .chroma-side2 .result) (c .before .before .before .before .before .before .before .chroma-place .result)
-    (c .before .before .before .before .before .before .before .before .before .before .before .chroma-side .ensures) (c .before .before .before .before .before .before .before .before .before .before .chroma-side2 .ensures) (c .before .before .before .before .before .before .before .chroma-place .ensures) refl refl refl) (w .kept .1 .1 .1 .1 .0))
+    let w = c .before .before .write-aycocg-row in (
+      omega arith,
+      image-turn _ (l .image) _ _ (l .row) (a .width) _ (l .inv .1) (w .ensures)
+          (aycocg-row-is (a .planes .now) (a .width) (a .height) (l .row) _ _ _ (a .params .alpha) (a .params .«color_loss_level») (a .params .«chroma_subsampling») (c .before .before .before .before .before .before .before .before .before .before .before .chroma-side .result) (c .before .before .before .before .before .before .before .before .before .before .chroma-side2 .result) (c .before .before .before .before .before .before .before .chroma-place .result)
+          (c .before .before .before .before .before .before .before .before .before .before .before .chroma-side .ensures) (c .before .before .before .before .before .before .before .before .before .before .chroma-side2 .ensures) (c .before .before .before .before .before .before .before .chroma-place .ensures) refl refl refl) (w .kept .1 .1 .1 .1 .0),
+    )
 
 -- src/image.rt:51:1
 same-length : tie.Need-same-length Inv-loop μ-loop

@@ -94,11 +94,12 @@ loop-again c =
     let v = c .before .before .before .before .before .before .put-rgb24 in
     let w = c .before .before .put-rgb242 in
     let l = c .before .before .before .before .before .before .before .before .before .before .before .before .before .before .before .loop in
-    let a = c .before .before .before .before .before .before .before .before .before .before .before .before .before .before .before .before .before .before .before .before .args in
-    (omega arith,
-    row-pair _ (l .dst) (v .last .0) _ (l .pair) _ _ _ (l .inv .1)
-    (column-is _ _ true (a .y .now) (a .co .now) (a .cg .now) (2 * l .pair) (l .pair) _ (left-place (l .pair)) (c .before .before .before .before .before .before .before .before .before .before .aycocg-color .ensures)) (v .kept .0) (v .ensures)
-    (column-is _ _ true (a .y .now) (a .co .now) (a .cg .now) (2 * l .pair + 1) (l .pair) _ (right-place (l .pair)) (c .before .before .before .before .before .before .before .before .aycocg-color2 .ensures)) (w .kept .0) (w .ensures))
+    let a = c .before .before .before .before .before .before .before .before .before .before .before .before .before .before .before .before .before .before .before .before .args in (
+      omega arith,
+      row-pair _ (l .dst) (v .last .0) _ (l .pair) _ _ _ (l .inv .1)
+          (column-is _ _ true (a .y .now) (a .co .now) (a .cg .now) (2 * l .pair) (l .pair) _ (left-place (l .pair)) (c .before .before .before .before .before .before .before .before .before .before .aycocg-color .ensures)) (v .kept .0) (v .ensures)
+          (column-is _ _ true (a .y .now) (a .co .now) (a .cg .now) (2 * l .pair + 1) (l .pair) _ (right-place (l .pair)) (c .before .before .before .before .before .before .before .before .aycocg-color2 .ensures)) (w .kept .0) (w .ensures),
+    )
 
 -- src/row.rt:69:1
 same-length : tie.Need-same-length Inv-loop μ-loop
