@@ -5,11 +5,21 @@ use mathlib.Core.Path.{_≡_, refl, sym, ap, _∙_}
 use mathlib.Core.List.{_++_}
 use native.Mathlib.Nat.{mul-le-mul, zero-add}
 use native.Mathlib.Omega.{arith}
+use mir.Val.{Fits}
+use mir.Syntax.{w64}
 use Rattle.rle_format.specs.Choice.{choose}
 use Rattle.rle_format.proofs.Plane.{area-most}
 use Rattle.bitmap_format.specs.declared.BitmapStreamHeader.{BitmapStreamHeader}
-use Rattle.bitmap_format.specs.Planes.{PlaneAt, planeAt, subsampled, chromaSide, firstPlane, secondPlane, thirdPlane, colourPlanes, alphaPlanes, planesOf}
+use Rattle.bitmap_format.specs.Planes.{planeAt, subsampled, chromaSide, firstPlane, secondPlane, thirdPlane, colourPlanes, alphaPlanes, planesOf}
 use Rattle.bitmap_format.specs.Sizes.{samples, leastOf, total, leastBody, workSize}
+
+-- ---- a choice whose test is known
+
+choose-first : (t : Bool) (a b : ℕ) → t ≡ true → choose t a b ≡ a
+choose-first t a b e = ap (λ (t : Bool). choose t a b) e
+
+choose-second : (t : Bool) (a b : ℕ) → t ≡ false → choose t a b ≡ b
+choose-second t a b e = ap (λ (t : Bool). choose t a b) e
 
 -- ---- a side of a chroma plane
 
@@ -29,6 +39,11 @@ side-most false side = omega arith
 
 -- ---- a plane
 
+pub product-fits : {a b : ℕ} → a ≤ 65536 → b ≤ 65536 → Fits w64 (a * b)
+product-fits {a} {b} la lb =
+    let most : a * b ≤ 65536 * 65536 = mul-le-mul la lb in
+    omega arith
+
 -- the least size of a plane of these sides: where it stands in the work area does not matter
 abbrev pub least : (rle : Bool) (w h : ℕ) → ℕ
 least rle w h = leastOf rle (planeAt w h 0)
@@ -38,17 +53,8 @@ least-anywhere true w h o = refl
 least-anywhere false w h o = refl
 
 pub least-most : (rle : Bool) (w h : ℕ) → w ≤ 8192 → h ≤ 8192 → least rle w h ≤ 67108864
-least-most true w h lw lh =
-    let a : (w + 46) / 47 ≤ 8192 = omega arith in
-    mul-le-mul lh a
-least-most false w h lw lh = area-most w h lw lh
-
--- a chroma plane is no larger than the picture
-pub chroma-most : (rle s : Bool) (w h : ℕ) → w ≤ 8192 → h ≤ 8192 → least rle (chromaSide s w) (chromaSide s h) ≤ 67108864
-chroma-most rle s w h lw lh =
-    let a : chromaSide s w ≤ 8192 = omega (arith, side-most s w) in
-    let b : chromaSide s h ≤ 8192 = omega (arith, side-most s h) in
-    least-most rle (chromaSide s w) (chromaSide s h) a b
+least-most true w h lw lh = area-most _ _ (omega arith) (omega arith)
+least-most false w h lw lh = area-most _ _ (omega arith) (omega arith)
 
 -- ---- the planes of a picture
 
@@ -62,9 +68,6 @@ colour-is rle s w h = omega (
   least-anywhere rle (chromaSide s w) (chromaSide s h) (w * h + chromaSide s w * chromaSide s h),
 )
 
-pub colour-most : (rle s : Bool) (w h : ℕ) → w ≤ 8192 → h ≤ 8192 → total (leastOf rle) (colourPlanes s w h) ≤ 201326592
-colour-most rle s w h lw lh = omega (arith, colour-is rle s w h, least-most rle w h lw lh, chroma-most rle s w h lw lh)
-
 -- the least body: alpha if flagged, and the colour planes
 pub with-alpha : (header : BitmapStreamHeader) (w h : ℕ)
     → leastBody header w h
@@ -77,7 +80,7 @@ with-alpha header w h = go (header .«use_alpha»)
         → total (leastOf (header .«enable_rle_compression»)) (alphaPlanes alpha w h ++ colourPlanes (subsampled (header .«color_plane_definition»)) w h)
         ≡ choose alpha (least (header .«enable_rle_compression») w h) 0
         + total (leastOf (header .«enable_rle_compression»)) (colourPlanes (subsampled (header .«color_plane_definition»)) w h)
-    go true = omega arith
+    go true = omega (arith, least-anywhere (header .«enable_rle_compression») w h 0)
     go false = omega arith
 
 -- the same by the sides
@@ -91,20 +94,17 @@ least-body-is header w h =
     with-alpha header w h
     ∙ ap (λ (n : ℕ). choose (header .«use_alpha») (least (header .«enable_rle_compression») w h) 0 + n) (colour-is (header .«enable_rle_compression») (subsampled (header .«color_plane_definition»)) w h)
 
--- the work area of an RLE picture: the samples of the colour planes
+-- a raw picture needs no work area
+pub no-work : (header : BitmapStreamHeader) (w h : ℕ) → header .«enable_rle_compression» ≡ false → workSize header w h ≡ 0
+unfolding workSize
+no-work header w h e = choose-second _ _ _ e
+
+-- that of an RLE picture has room for the samples of the colour planes
 pub work-size-is : (header : BitmapStreamHeader) (w h : ℕ) → header .«enable_rle_compression» ≡ true
     → workSize header w h
     ≡ w * h + 2 * (chromaSide (subsampled (header .«color_plane_definition»)) w * chromaSide (subsampled (header .«color_plane_definition»)) h)
-unfolding workSize
-work-size-is header w h e =
-    ap (λ (t : Bool). choose t (total samples (colourPlanes (subsampled (header .«color_plane_definition»)) w h)) 0) e
-    ∙ colour-is false (subsampled (header .«color_plane_definition»)) w h
-
--- a raw picture needs none
-pub no-work : (header : BitmapStreamHeader) (w h : ℕ) → header .«enable_rle_compression» ≡ false → workSize header w h ≡ 0
-unfolding workSize
-no-work header w h e =
-    ap (λ (t : Bool). choose t (total samples (colourPlanes (subsampled (header .«color_plane_definition»)) w h)) 0) e
+unfolding workSize total colourPlanes firstPlane secondPlane thirdPlane
+work-size-is header w h e = omega (arith, choose-first (header .«enable_rle_compression») (total samples (colourPlanes (subsampled (header .«color_plane_definition»)) w h)) 0 e)
 
 -- ---- what the code adds up
 
@@ -138,6 +138,4 @@ module _ (header : BitmapStreamHeader) (w h : ℕ) (s : Bool) (es : s ≡ subsam
   -- the work area of an RLE picture
   pub work-rle : (colour : ℕ) → header .«enable_rle_compression» ≡ true → colour ≡ total (leastOf false) (colourPlanes s w h) → colour ≡ workSize header w h
   unfolding workSize
-  work-rle colour e ec =
-      colour-of false colour ec
-      ∙ sym (ap (λ (t : Bool). choose t (total samples (colourPlanes (subsampled (header .«color_plane_definition»)) w h)) 0) e)
+  work-rle colour e ec = colour-of false colour ec ∙ sym (choose-first _ _ _ e)

@@ -38,10 +38,11 @@ fn min_compressed_plane_size(width: usize, height: usize) -> usize
     height * ((width + (LONGEST - 1)) / LONGEST)
 }
 
-// The least bytes of a plane; those of a raw one are its samples.
+// The least bytes of a plane; those of a raw one are its samples. That they are few is said for the callers' sums.
 pub(crate) fn min_plane_size(rle: bool, width: usize, height: usize) -> usize
     requires { ⌜ (width ≤ 8192) × (height ≤ 8192) ⌝ }
-    ensures { λ r. ⌜ r ≡ leastOf rle (planeAt width height 0) ⌝ }
+    ensures least { λ r. ⌜ r ≡ leastOf rle (planeAt width height 0) ⌝ }
+    ensures most { λ r. ⌜ r ≤ 67108864 ⌝ }
 {
     if rle {
         return min_compressed_plane_size(width, height);
@@ -57,7 +58,8 @@ pub(crate) fn min_color_planes_size(
     height: usize,
 ) -> usize
     requires { ⌜ (width ≤ 8192) × (height ≤ 8192) ⌝ }
-    ensures { λ r. ⌜ r ≡ total (leastOf rle) (colourPlanes subsampling width height) ⌝ }
+    ensures least { λ r. ⌜ r ≡ total (leastOf rle) (colourPlanes subsampling width height) ⌝ }
+    ensures most { λ r. ⌜ r ≤ 201326592 ⌝ }
 {
     let chroma_width = chroma_side(subsampling, width);
     let chroma_height = chroma_side(subsampling, height);

@@ -1,12 +1,19 @@
 // A data file: loaded whole, and replayed line by line.
+use crate::picture;
 use crate::plane;
-use crate::plane::Kind;
+use crate::plane::Entry;
 use crate::read;
 use crate::report;
 use crate::report::Outcome;
 use crate::report::Tally;
 ghost use Prim.Native.Nat.{_+_, _≤_};
 ghost use lib.ListN.{length};
+
+// What the cases of a file are of.
+pub(crate) enum Kind {
+    Plane(Entry),
+    Picture,
+}
 
 // The largest file: 1 MiB. What is loaded has room for one byte more, which only a larger file fills.
 const MOST: usize = 1_048_576;
@@ -76,5 +83,8 @@ fn replay_line(kind: Kind, line: &[u8]) -> Outcome {
             return Outcome::Comment;
         }
     }
-    plane::replay(kind, line)
+    match kind {
+        Kind::Plane(entry) => plane::replay(entry, line),
+        Kind::Picture => picture::replay(line),
+    }
 }

@@ -1,18 +1,25 @@
 // Replays the stored cases of data/ through the public entries and prints, for each file, how many came out as stored.
 // An entry that answers otherwise, or a data file that is damaged, changes what is printed.
 mod file;
+mod part;
+mod picture;
 mod plane;
 mod read;
 mod report;
 
-use plane::Kind;
+use file::Kind;
+use plane::Entry;
 
 fn main() {
-    file::replay(Kind::Unpack, b"examples.txt");
-    file::replay(Kind::Pack, b"examples-pack.txt");
-    file::replay(Kind::Unpack, b"refusals.txt");
-    file::replay(Kind::Pack, b"refusals-pack.txt");
-    file::replay(Kind::RoundTrip, b"demand-3.txt");
-    file::replay(Kind::Unpack, b"plane-unpack.txt");
-    file::replay(Kind::Pack, b"plane-pack.txt");
+    file::replay(Kind::Plane(Entry::Unpack), b"examples.txt");
+    file::replay(Kind::Plane(Entry::Pack), b"examples-pack.txt");
+    file::replay(Kind::Plane(Entry::Unpack), b"refusals.txt");
+    file::replay(Kind::Plane(Entry::Pack), b"refusals-pack.txt");
+    file::replay(Kind::Plane(Entry::RoundTrip), b"demand-3.txt");
+    file::replay(Kind::Plane(Entry::Unpack), b"plane-unpack.txt");
+    file::replay(Kind::Plane(Entry::Pack), b"plane-pack.txt");
+    file::replay(Kind::Picture, b"examples-picture.txt");
+    file::replay(Kind::Picture, b"refusals-picture.txt");
+    // The Rust's answers to pictures, picture-unpack.txt, are to follow here: they are not stored yet in the form of a line that
+    // picture.rt reads.
 }

@@ -8,6 +8,9 @@
 //     WIDTH HEIGHT END ROOM ANSWER SAMPLES AFTER
 // The samples are packed into 20,000 bytes that hold C7, and the first END bytes of these are unpacked. ANSWER is that of
 // unpacking, or for samples that are not packed minus the refusal's number, or minus 0 where END is over 20,000.
+use crate::part;
+use crate::part::MARGIN;
+use crate::part::MOST;
 use crate::read;
 use crate::read::Bytes;
 use crate::read::Number;
@@ -19,31 +22,22 @@ use rle_format::Packed;
 use rle_format::Refusal;
 use rle_format::Unpacked;
 use rle_round_trip::RoundTrip;
-ghost use mathlib.Core.Path.{_≡_};
 ghost use Prim.Native.Nat.{_+_, _≤_};
 ghost use lib.ListN.{length};
 
-// What a case calls. All cases of a file are of one kind.
-pub(crate) enum Kind {
+// The entry that a case calls. All cases of a file call the same.
+pub(crate) enum Entry {
     Unpack,
     Pack,
     RoundTrip,
 }
 
-// The most bytes that are given, of a packing, and of a destination.
-const MOST: usize = 20_000;
-
-// Bytes of no meaning around what is given, a packing and the destination, so that each is lent as a part of more.
-const MARGIN: usize = 16;
-
-const AROUND: u8 = 0xC7;
-
-// What the destination holds before the call.
-const UNWRITTEN: u8 = 0xEE;
+// The slice that the samples of a round trip are packed into.
+const PACKED: usize = 20_000;
 
 // The numbers of a case, and the place of the bytes that are given. Only a round trip has an end; of others it is 0.
 struct Case {
-    kind: Kind,
+    entry: Entry,
     width: usize,
     height: usize,
     end: usize,
@@ -58,13 +52,13 @@ enum Head {
 }
 
 // Replays the case that a line tells.
-pub(crate) fn replay(kind: Kind, line: &[u8]) -> Outcome {
-    let Head::Of(case) = read_head(kind, line) else {
+pub(crate) fn replay(entry: Entry, line: &[u8]) -> Outcome {
+    let Head::Of(case) = read_head(entry, line) else {
         return Outcome::Malformed;
     };
-    let mut given = surrounded();
-    let mut dst = surrounded();
-    let mut after = surrounded();
+    let mut given = part::surrounded();
+    let mut dst = part::surrounded();
+    let mut after = part::surrounded();
     replay_in(
         case,
         line,
@@ -95,15 +89,8 @@ fn replay_in(case: Case, line: &[u8], given: &mut [u8], dst: &mut [u8], after: &
     run(case, &given[0..count], dst, &after[0..room])
 }
 
-// Room for the most bytes, with the margins. The length is all that lending a part of it needs.
-fn surrounded() -> [u8; MOST + MARGIN * 2]
-    ensures { λ r. ⌜ 20032 ≡ length r ⌝ }
-{
-    [AROUND; MOST + MARGIN * 2]
-}
-
 // Reads the numbers.
-fn read_head(kind: Kind, line: &[u8]) -> Head {
+fn read_head(entry: Entry, line: &[u8]) -> Head {
     let Number::Value { value: width, next } = read::next_number(line, 0) else {
         return Head::Malformed;
     };
@@ -114,7 +101,7 @@ fn read_head(kind: Kind, line: &[u8]) -> Head {
     else {
         return Head::Malformed;
     };
-    let Number::Value { value: end, next } = read_end(kind, line, next) else {
+    let Number::Value { value: end, next } = read_end(entry, line, next) else {
         return Head::Malformed;
     };
     let Number::Value { value: room, next } = read::next_number(line, next) else {
@@ -128,7 +115,7 @@ fn read_head(kind: Kind, line: &[u8]) -> Head {
         number: value,
     };
     Head::Of(Case {
-        kind,
+        entry,
         width,
         height,
         end,
@@ -139,10 +126,10 @@ fn read_head(kind: Kind, line: &[u8]) -> Head {
 }
 
 // Reads the end of a round trip. The line of another case has none, and is read on from where it was.
-fn read_end(kind: Kind, line: &[u8], at: usize) -> Number {
-    match kind {
-        Kind::RoundTrip => read::next_number(line, at),
-        Kind::Unpack | Kind::Pack => Number::Value { value: 0, next: at },
+fn read_end(entry: Entry, line: &[u8], at: usize) -> Number {
+    match entry {
+        Entry::RoundTrip => read::next_number(line, at),
+        Entry::Unpack | Entry::Pack => Number::Value { value: 0, next: at },
     }
 }
 
@@ -151,59 +138,43 @@ fn is_whole(case: Case, room: usize, line: &[u8], end: usize) -> bool {
     room == case.room && end == line.len()
 }
 
-// Runs the case on a part of dst, as long as after.
+// Runs the case on a part of dst, as long as after, and compares all that there is to see.
 fn run(case: Case, given: &[u8], dst: &mut [u8], after: &[u8]) -> Outcome
     requires { ⌜ length (now after) + 32 ≤ length (now dst) ⌝ }
 {
-    let end = MARGIN + after.len();
-    read::fill(&mut dst[MARGIN..end], UNWRITTEN);
-    let answer = called(case, given, &mut dst[MARGIN..end]);
+    part::prepare(dst, after.len());
+    let answer = called(case, given, &mut dst[MARGIN..MARGIN + after.len()]);
+    let seen = part::look_at(dst, after);
     let expected = case.answer;
-    compared(expected, answer, dst, after)
-}
-
-// Compares all that there is to see: the answers, the part of dst, and the bytes around it.
-fn compared(expected: Answer, got: Answer, dst: &[u8], after: &[u8]) -> Outcome
-    requires { ⌜ length (now after) + 32 ≤ length (now dst) ⌝ }
-{
-    let end = MARGIN + after.len();
-    let written = check::same(&dst[MARGIN..end], after);
-    let before = is_margin(&dst[0..MARGIN]);
-    let behind = is_margin(&dst[end..end + MARGIN]);
-    report::compared(expected, got, written, before && behind)
-}
-
-// Whether a margin is as it was.
-fn is_margin(bytes: &[u8]) -> bool {
-    check::same(bytes, &[AROUND; MARGIN])
+    report::compared(expected, answer, seen.written, seen.untouched)
 }
 
 // Calls what the case is for.
 fn called(case: Case, given: &[u8], dst: &mut [u8]) -> Answer {
-    let kind = case.kind;
-    match kind {
-        Kind::Unpack => of_unpacking(rle_decoder::decompress_8bpp_plane(
+    let entry = case.entry;
+    match entry {
+        Entry::Unpack => of_unpacking(rle_decoder::decompress_8bpp_plane(
             given,
             dst,
             case.width,
             case.height,
         )),
-        Kind::Pack => of_packing(rle_encoder::compress_8bpp_plane(
+        Entry::Pack => of_packing(rle_encoder::compress_8bpp_plane(
             given,
             dst,
             case.width,
             case.height,
         )),
-        Kind::RoundTrip => round_trip(case, given, dst),
+        Entry::RoundTrip => round_trip(case, given, dst),
     }
 }
 
 // Packs the samples, and unpacks the first bytes of the slice that they were packed into.
 fn round_trip(case: Case, samples: &[u8], dst: &mut [u8]) -> Answer {
-    let mut packed = surrounded();
+    let mut packed = part::surrounded();
     let trip = rle_round_trip::round_trip(
         samples,
-        &mut packed[MARGIN..MARGIN + MOST],
+        &mut packed[MARGIN..MARGIN + PACKED],
         case.end,
         dst,
         case.width,
@@ -243,7 +214,7 @@ fn of_round_trip(trip: RoundTrip) -> Answer {
     }
 }
 
-fn refused(refusal: Refusal) -> Answer {
+pub(crate) fn refused(refusal: Refusal) -> Answer {
     Answer {
         refused: true,
         number: rle_format::number_of(refusal) as usize,

@@ -4,8 +4,8 @@ use borrow.Author.Tests.{not-true, not-false}
 use native.Mathlib.Omega.{arith}
 use mathlib.Core.Path.{sym, _∙_}
 use Rattle.rle_format.proofs.Sides.{Within, sides-in, sides-pass, sides-out}
-use Rattle.rle_format.proofs.Plane.{area-most}
 use Rattle.bitmap_format.specs.Sizes.{imageSize}
+use Rattle.bitmap_format.proofs.Sizes.{product-fits}
 use borrow.Author.Needs.{needs}
 use Rattle.bitmap_format.proofs.image_size.Statement.{statement}
 use Rattle.bitmap_format.proofs.image_size.Tie as tie
@@ -20,10 +20,10 @@ returns : tie.Need-returns
 returns c = let a = c .before .before .args in sym (sides-out 0 (a .width) (a .height) (imageSize (a .width) (a .height)) (sym (c .before .is-within .ensures) ∙ not-true _ (c .if1 .taken)))
 
 mul-result : tie.Need-mul-result
-mul-result c = let a = c .before .before .args in omega (arith, within c)
+mul-result c = omega (arith, within c)
 
 mul-result-2 : tie.Need-mul-result-2
-mul-result-2 c = let a = c .before .before .args in omega (arith, area-most (a .width) (a .height) (within c .wide) (within c .high))
+mul-result-2 c = product-fits (omega (arith, within c)) (omega (arith, within c))
 
 returns-2 : tie.Need-returns-2
 unfolding imageSize

@@ -1,29 +1,17 @@
 -- `min_body_size`: 0 for sides that fail their tests, else the sum over the planes, with alpha and without. Assumes nothing.
 use native.Mathlib.Omega.{arith}
 use mathlib.Core.Path.{sym, _∙_}
-use Prim.Native.Nat.{ℕ, _≤_}
+use Prim.Native.Nat.{ℕ}
 use borrow.Author.Tests.{not-true, not-false}
 use Rattle.rle_format.proofs.Sides.{Within, sides-in, sides-pass, sides-out}
 use Rattle.bitmap_format.specs.Sizes.{leastBody}
-use Rattle.bitmap_format.proofs.Sizes.{least-most, colour-most, body-alpha, body-plain}
+use Rattle.bitmap_format.proofs.Sizes.{body-alpha, body-plain}
 use borrow.Author.Needs.{needs}
 use Rattle.bitmap_format.proofs.min_body_size.Statement.{statement}
 use Rattle.bitmap_format.proofs.min_body_size.Tie as tie
 
 within : (k : tie.Else1) → Within (k .before .before .args .width) (k .before .before .args .height)
 within k = sides-in _ _ (sym (k .before .is-within .ensures) ∙ not-false _ (k .if1 .left))
-
-full-most : (k : tie.After-min-plane-size) → k .min-plane-size .result ≤ 67108864
-full-most k =
-    let e = k .before .before .before .before in
-    let a = e .before .before .args in
-    omega (arith, k .min-plane-size .ensures, least-most (a .header .«enable_rle_compression») (a .width) (a .height) (within e .wide) (within e .high))
-
-colours-most : (k : tie.After-min-color-planes-size) → k .min-color-planes-size .result ≤ 201326592
-colours-most k =
-    let e = k .before .before in
-    let a = e .before .before .args in
-    omega (arith, k .min-color-planes-size .ensures, colour-most (a .header .«enable_rle_compression») (k .before .has-subsampled-chroma .result) (a .width) (a .height) (within e .wide) (within e .high))
 
 is-within-requires : tie.Need-is-within-requires
 is-within-requires c κs = search needs
@@ -37,20 +25,20 @@ has-subsampled-chroma-requires : tie.Need-has-subsampled-chroma-requires
 has-subsampled-chroma-requires c κs = search needs
 
 min-color-planes-size-requires : tie.Need-min-color-planes-size-requires
-min-color-planes-size-requires c κs = (within (c .before) .wide, within (c .before) .high)
+min-color-planes-size-requires c κs = (omega (arith, within (c .before)), omega (arith, within (c .before)))
 
 min-plane-size-requires : tie.Need-min-plane-size-requires
-min-plane-size-requires c κs = (within (c .before .before .before) .wide, within (c .before .before .before) .high)
+min-plane-size-requires c κs = (omega (arith, within (c .before .before .before)), omega (arith, within (c .before .before .before)))
 
 add-result : tie.Need-add-result
-add-result c = omega (arith, full-most c, colours-most (c .before .before))
+add-result c = omega arith
 
 returns-2 : tie.Need-returns-2
 returns-2 c =
     let k = c .before .before in
     let e = k .before .before in
     let a = e .before .before .args in
-    body-alpha (a .header) (a .width) (a .height) (k .before .has-subsampled-chroma .result) (k .before .has-subsampled-chroma .ensures) (c .min-plane-size .result) (k .min-color-planes-size .result) (c .before .if2 .taken) (c .min-plane-size .ensures) (k .min-color-planes-size .ensures)
+    body-alpha (a .header) (a .width) (a .height) (k .before .has-subsampled-chroma .result) (k .before .has-subsampled-chroma .ensures) (c .min-plane-size .result) (k .min-color-planes-size .result) (c .before .if2 .taken) (c .min-plane-size .ensures .0) (k .min-color-planes-size .ensures .0)
     ∙ sym (sides-pass (λ (_ : ℕ). 0) (a .width) (a .height) (leastBody (a .header) (a .width) (a .height)) (within e))
 
 returns-3 : tie.Need-returns-3
@@ -58,7 +46,7 @@ returns-3 c =
     let k = c .before in
     let e = k .before .before in
     let a = e .before .before .args in
-    body-plain (a .header) (a .width) (a .height) (k .before .has-subsampled-chroma .result) (k .before .has-subsampled-chroma .ensures) (k .min-color-planes-size .result) (c .if2 .left) (k .min-color-planes-size .ensures)
+    body-plain (a .header) (a .width) (a .height) (k .before .has-subsampled-chroma .result) (k .before .has-subsampled-chroma .ensures) (k .min-color-planes-size .result) (c .if2 .left) (k .min-color-planes-size .ensures .0)
     ∙ sym (sides-pass (λ (_ : ℕ). 0) (a .width) (a .height) (leastBody (a .header) (a .width) (a .height)) (within e))
 
 pub min-body-size-spec : {M : Type 1} → statement M

@@ -1,4 +1,5 @@
 -- `work_size`: 0 for sides that fail their tests and for a raw picture, else the samples of the colour planes. Assumes nothing.
+use native.Mathlib.Omega.{arith}
 use mathlib.Core.Path.{sym, _∙_}
 use Prim.Native.Nat.{ℕ}
 use borrow.Author.Tests.{not-true, not-false}
@@ -24,13 +25,13 @@ has-subsampled-chroma-requires : tie.Need-has-subsampled-chroma-requires
 has-subsampled-chroma-requires c κs = search needs
 
 min-color-planes-size-requires : tie.Need-min-color-planes-size-requires
-min-color-planes-size-requires c κs = (within (c .before .before) .wide, within (c .before .before) .high)
+min-color-planes-size-requires c κs = (omega (arith, within (c .before .before)), omega (arith, within (c .before .before)))
 
 returns-2 : tie.Need-returns-2
 returns-2 c =
     let t = c .before .before in
     let a = t .before .before .before .args in
-    work-rle (a .header) (a .width) (a .height) (c .before .has-subsampled-chroma .result) (c .before .has-subsampled-chroma .ensures) (c .min-color-planes-size .result) (t .if2 .taken) (c .min-color-planes-size .ensures)
+    work-rle (a .header) (a .width) (a .height) (c .before .has-subsampled-chroma .result) (c .before .has-subsampled-chroma .ensures) (c .min-color-planes-size .result) (t .if2 .taken) (c .min-color-planes-size .ensures .0)
     ∙ sym (sides-pass (λ (_ : ℕ). 0) (a .width) (a .height) (workSize (a .header) (a .width) (a .height)) (within (t .before)))
 
 returns-3 : tie.Need-returns-3

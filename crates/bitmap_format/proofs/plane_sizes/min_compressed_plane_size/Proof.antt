@@ -1,7 +1,7 @@
 -- `min_compressed_plane_size`: the definition's own product, which fits. Assumes nothing.
 use native.Mathlib.Omega.{arith}
-use mathlib.Core.Bool.{true}
-use Rattle.bitmap_format.proofs.Sizes.{least-most}
+use mathlib.Core.Path.{refl}
+use Rattle.bitmap_format.proofs.Sizes.{product-fits}
 use borrow.Author.Needs.{needs}
 use Rattle.bitmap_format.proofs.plane_sizes.min_compressed_plane_size.Statement.{statement}
 use Rattle.bitmap_format.proofs.plane_sizes.min_compressed_plane_size.Tie as tie
@@ -13,10 +13,10 @@ add-result : tie.Need-add-result
 add-result c = search needs
 
 mul-result : tie.Need-mul-result
-mul-result c = omega (arith, least-most true (c .args .width) (c .args .height) (c .pre .0) (c .pre .1))
+mul-result c = product-fits (omega arith) (omega arith)
 
 returns : tie.Need-returns
-returns c = search needs
+returns c = refl
 
 pub min-compressed-plane-size-spec : {M : Type 1} → statement M
 min-compressed-plane-size-spec = tie.close (tie.spec sub-result add-result mul-result returns)

@@ -1,9 +1,9 @@
 -- `min_plane_size`: what the RLE flag chooses. Assumes nothing.
 use native.Mathlib.Omega.{arith}
-use mathlib.Core.Path.{sym, ap, _∙_}
+use Prim.Native.Nat.{_*_}
+use mathlib.Core.Path.{_≡_, sym, ap, _∙_}
 use mathlib.Core.Bool.{Bool}
-use Rattle.rle_format.proofs.Plane.{area-most}
-use Rattle.bitmap_format.proofs.Sizes.{least}
+use Rattle.bitmap_format.proofs.Sizes.{product-fits, least, least-most}
 use borrow.Author.Needs.{needs}
 use Rattle.bitmap_format.proofs.plane_sizes.min_plane_size.Statement.{statement}
 use Rattle.bitmap_format.proofs.plane_sizes.min_plane_size.Tie as tie
@@ -12,13 +12,21 @@ min-compressed-plane-size-requires : tie.Need-min-compressed-plane-size-requires
 min-compressed-plane-size-requires c κs = search needs
 
 returns : tie.Need-returns
-returns c = let a = c .before .before .args in c .min-compressed-plane-size .ensures ∙ sym (ap (λ (t : Bool). least t (a .width) (a .height)) (c .before .if1 .taken))
+returns c =
+    let s = c .before .before in
+    let e : c .min-compressed-plane-size .result ≡ least (s .args .rle) (s .args .width) (s .args .height) =
+    c .min-compressed-plane-size .ensures ∙ sym (ap (λ (t : Bool). least t (s .args .width) (s .args .height)) (c .before .if1 .taken)) in
+    (e, rw e (least-most (s .args .rle) (s .args .width) (s .args .height) (s .pre .0) (s .pre .1)))
 
 mul-result : tie.Need-mul-result
-mul-result c = let s = c .before in omega (arith, area-most (s .args .width) (s .args .height) (s .pre .0) (s .pre .1))
+mul-result c = product-fits (omega arith) (omega arith)
 
 returns-2 : tie.Need-returns-2
-returns-2 c = let a = c .before .args in sym (ap (λ (t : Bool). least t (a .width) (a .height)) (c .if1 .left))
+returns-2 c =
+    let s = c .before in
+    let e : s .args .width * s .args .height ≡ least (s .args .rle) (s .args .width) (s .args .height) =
+    sym (ap (λ (t : Bool). least t (s .args .width) (s .args .height)) (c .if1 .left)) in
+    (e, rw e (least-most (s .args .rle) (s .args .width) (s .args .height) (s .pre .0) (s .pre .1)))
 
 pub min-plane-size-spec : {M : Type 1} → statement M
 min-plane-size-spec =

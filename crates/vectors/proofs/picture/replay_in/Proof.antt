@@ -1,0 +1,76 @@
+-- `replay_in` is safe: the body lies within the room for it, and both slices in theirs. Assumes nothing.
+use native.Mathlib.Omega.{arith}
+use borrow.Author.Needs.{needs}
+use Rattle.vectors.proofs.picture.replay_in.Statement.{statement}
+use Rattle.vectors.proofs.picture.replay_in.Tie as tie
+
+returns : tie.Need-returns
+returns c = search needs
+
+returns-2 : tie.Need-returns-2
+returns-2 c = search needs
+
+next-bytes-requires : tie.Need-next-bytes-requires
+next-bytes-requires c κs = search needs
+
+enum-known-count : tie.Need-enum-known-count
+enum-known-count c = search needs
+
+enum-told : tie.Need-enum-told
+enum-told c = search needs
+
+same-length : tie.Need-same-length
+same-length c = search needs
+
+returns-3 : tie.Need-returns-3
+returns-3 c = search needs
+
+sub-run : tie.Need-sub-run
+sub-run c = search needs
+
+part-run-start : tie.Need-part-run-start
+part-run-start c = search needs
+
+part-run-end : tie.Need-part-run-end
+part-run-end c =
+    let p = c .before .before in
+    omega (arith, rw (p .count .given .1) at (p .before .before .before .before .next-bytes .ensures))
+
+run-requires : tie.Need-run-requires
+run-requires c κs = search needs
+
+compared-requires : tie.Need-compared-requires
+compared-requires c κs = search needs
+
+same-length-2 : tie.Need-same-length-2
+same-length-2 c = search needs
+
+same-length-3 : tie.Need-same-length-3
+same-length-3 c = search needs
+
+same-length-4 : tie.Need-same-length-4
+same-length-4 c = search needs
+
+returns-4 : tie.Need-returns-4
+returns-4 c = search needs
+
+pub replay-in-spec : {M : Type 1} → statement M
+replay-in-spec =
+    tie.close
+    (tie.spec
+    returns
+    returns-2
+    next-bytes-requires
+    enum-known-count
+    enum-told
+    same-length
+    returns-3
+    sub-run
+    part-run-start
+    part-run-end
+    run-requires
+    compared-requires
+    same-length-2
+    same-length-3
+    same-length-4
+    returns-4)
