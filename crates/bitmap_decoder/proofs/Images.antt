@@ -17,7 +17,7 @@ use Rattle.bitmap_format.specs.Colour.{rgb, aycocgColour, rgb24}
 use Rattle.bitmap_format.specs.Planes.{PlaneAt, chromaSide, firstPlane, secondPlane, thirdPlane, colourPlanes}
 use Rattle.bitmap_format.specs.Sizes.{samples, total, rowSize, imageSize}
 use Rattle.bitmap_format.specs.Image.{sample, chromaPlace, colourAt, each, imageRow, placed}
-use Rattle.bitmap_format.proofs.Sizes.{colour-is, chroma-most}
+use Rattle.bitmap_format.proofs.Sizes.{side-most, colour-is}
 use Rattle.bitmap_decoder.specs.Rows.{argbRow, aycocgRow}
 
 -- ---- a row of a plane that was lent from its first sample on
@@ -85,7 +85,7 @@ module _ (s : Bool) (width height cw ch len : ℕ) (lw : width ≤ 8192) (lh : h
   pub areas : Areas width height cw ch len
   areas = record {
     full-most = area-most width height lw lh;
-    chroma-most = rw (ew, eh) (chroma-most false s width height lw lh);
+    chroma-most = area-most cw ch (omega (arith, side-most s width)) (omega (arith, side-most s height));
     all = rw (ew, eh) (rw (colour-is false s width height) at l);
   }
 

@@ -3,8 +3,7 @@ use Prim.Native.Nat.{ℕ, _+_, _*_, _≤_}
 use mathlib.Core.Bool.{Bool, true, false}
 use mathlib.Core.Path.{_≡_, refl, sym, ap, _∙_}
 use mathlib.Core.List.{List}
-use native.Mathlib.Nat.{add-zero, mul-le-mul}
-use native.Mathlib.Omega.{arith}
+use native.Mathlib.Nat.{add-zero}
 use lib.ListN.{length, drop}
 use Rattle.rle_format.specs.declared.Refusal.{Refusal}
 use Rattle.rle_format.specs.declared.Unpacked.{Unpacked}
@@ -97,9 +96,3 @@ pub raw-painted : (header : BitmapStreamHeader) (w h n : ℕ) (body work image a
     → Left (rawPicture header w h body work image) work after d
 unfolding rawPicture painted
 raw-painted header w h n body work image after d ed en ea = (ed ∙ ap counted en, (refl, ea))
-
-pub size-most : (w h : ℕ) → w ≤ 8192 → h ≤ 8192 → 3 * w * h ≤ 201326592
-size-most w h lw lh = mul-le-mul (three w lw) lh
-  where
-    three : (n : ℕ) → n ≤ 8192 → 3 * n ≤ 24576
-    three n l = omega arith

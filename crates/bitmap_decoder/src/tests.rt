@@ -1,8 +1,10 @@
 // The tests before a picture is read, in the order of document 01's table.
 ghost use mathlib.Core.Path.{_≡_};
 ghost use Prim.Native.Nat.{_≤_};
-ghost use Rattle.bitmap_format.specs.Picture.{lossWrong, toldDecoded};
-ghost use Rattle.bitmap_decoder.specs.Tested.{testedSlices, tested};
+ghost use Rattle.rle_format.specs.Answer.{counted};
+ghost use Rattle.bitmap_format.specs.Tests.{downwards};
+ghost use Rattle.bitmap_format.specs.Sizes.{imageSize};
+ghost use Rattle.bitmap_format.specs.Picture.{lossWrong, pictureTests, tested, toldDecoded};
 use bitmap_format::BitmapStreamHeader;
 use bitmap_format::ColorPlaneDefinition;
 use bitmap_format::Decoded;
@@ -61,7 +63,7 @@ fn test_slices(
     image: usize,
 ) -> Decoded
     requires { ⌜ (width ≡ 0 → ⊥) × (height ≡ 0 → ⊥) × (width ≤ 8192) × (height ≤ 8192) ⌝ }
-    ensures { λ r. ⌜ toldDecoded r ≡ testedSlices header width height body work image ⌝ }
+    ensures { λ r. ⌜ toldDecoded r ≡ downwards (pictureTests header width height body work image) (counted (imageSize width height)) ⌝ }
 {
     let definition = header.color_plane_definition;
     if is_loss_wrong(definition) {

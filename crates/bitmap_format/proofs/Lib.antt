@@ -5,4 +5,5 @@ pub mod Integers
 pub mod Colour
 pub mod Image
 pub mod UnpackPlanes
+pub mod Tested
 pub mod Picture

@@ -1,4 +1,4 @@
--- What the sizes and the loss level of a picture say once they are tested.
+-- A picture by the answer of its tests, and what its sizes and its loss level say once they are tested.
 use Prim.Native.Nat.{ℕ, _+_, _≤_}
 use mathlib.Core.Bool.{Bool, true, false, _||_}
 use mathlib.Core.Path.{_≡_, refl, sym, ap, _∙_}
@@ -6,14 +6,70 @@ use mathlib.Core.List.{List, [], _∷_, _++_}
 use native.Mathlib.Nat.{add-assoc, zero-add}
 use native.Mathlib.Omega.{arith}
 use lib.Dec.{ltb, eqb}
+use lib.ListN.{length}
 use borrow.Author.Tests.{ltb-false, eqb-false}
+use Rattle.rle_format.specs.Choice.{choose}
+use Rattle.rle_format.specs.Answer.{Answer, counted, refused}
 use Rattle.bitmap_format.specs.declared.BitmapStreamHeader.{BitmapStreamHeader}
 use Rattle.bitmap_format.specs.declared.ColorPlaneDefinition.{ColorPlaneDefinition}
 use Rattle.bitmap_format.specs.declared.ColorPlaneDefinition.the-variants.{AYCoCg}
-use Rattle.bitmap_format.specs.Tests.{test}
 use Rattle.bitmap_format.specs.Planes.{PlaneAt, subsampled, colourPlanes, alphaPlanes, planesOf}
-use Rattle.bitmap_format.specs.Sizes.{samples, leastOf, total, leastBody, workSize}
-use Rattle.bitmap_format.specs.Picture.{lossWrong}
+use Rattle.bitmap_format.specs.Sizes.{samples, leastOf, total, leastBody, workSize, imageSize}
+use Rattle.bitmap_format.specs.UnpackPlanes.{unpackPlanes}
+use Rattle.bitmap_format.specs.Picture.{Picture, refusal, lossWrong, tested, painted, rawPicture, fromWork, rlePicture, unpackPicture}
+use Rattle.bitmap_format.proofs.Sizes.{size-most}
+use Rattle.bitmap_format.proofs.UnpackPlanes.{none-read}
+use Rattle.bitmap_format.proofs.Tested.{passed}
+
+-- ---- the picture by the answer of its tests
+
+module _ (header : BitmapStreamHeader) (w h : ℕ) (body work image : List ℕ) where
+  pub picture-refused : (r : ℕ) → tested header w h (length body) (length work) (length image) ≡ refused r → unpackPicture header w h body work image ≡ refusal work image r
+  unfolding unpackPicture
+  picture-refused r e = cc e
+
+  module _ (n : ℕ) (e : tested header w h (length body) (length work) (length image) ≡ counted n) where
+    picture-read : unpackPicture header w h body work image ≡ choose (header .«enable_rle_compression») (rlePicture header w h body work image) (rawPicture header w h body work image)
+    unfolding unpackPicture
+    picture-read = cc e
+
+    pub picture-rle : header .«enable_rle_compression» ≡ true → unpackPicture header w h body work image ≡ rlePicture header w h body work image
+    picture-rle t = picture-read ∙ ap (λ (b : Bool). choose b (rlePicture header w h body work image) (rawPicture header w h body work image)) t
+
+    pub picture-raw : header .«enable_rle_compression» ≡ false → unpackPicture header w h body work image ≡ rawPicture header w h body work image
+    picture-raw t = picture-read ∙ ap (λ (b : Bool). choose b (rlePicture header w h body work image) (rawPicture header w h body work image)) t
+
+-- ---- how many bytes are written
+
+painted-answer : (header : BitmapStreamHeader) (w h n : ℕ) (work image : List ℕ) (a : Answer) → fromWork header w h work image a .answer ≡ counted n → n ≡ imageSize w h
+unfolding fromWork painted
+painted-answer header w h n work image (counted m) e = cc
+painted-answer header w h n work image (refused r) e = none-read (sym e)
+
+-- a picture that was written has no more than 3 × 8,192 × 8,192 bytes
+pub written-few : (header : BitmapStreamHeader) (w h : ℕ) (body work image : List ℕ) (n : ℕ) → unpackPicture header w h body work image .answer ≡ counted n → n ≤ 201326592
+unfolding rlePicture rawPicture painted
+written-few header w h body work image n e = by-tests (tested header w h (length body) (length work) (length image)) refl
+  where
+    size : (m : ℕ) → tested header w h (length body) (length work) (length image) ≡ counted m → n ≡ imageSize w h → n ≤ 201326592
+    size m et en =
+        let p = passed header w h (length body) (length work) (length image) m et in
+        omega (arith, size-most w h (p .width-most) (p .height-most))
+
+    read : (m : ℕ) → tested header w h (length body) (length work) (length image) ≡ counted m → (b : Bool) → header .«enable_rle_compression» ≡ b → n ≤ 201326592
+    read m et true eb =
+        size m et
+        (painted-answer header w h n _ image (unpackPlanes (planesOf header w h) work body .answer) (sym (ap (λ (p : Picture). p .answer) (picture-rle header w h body work image m et eb)) ∙ e))
+    read m et false eb =
+        let same : counted (imageSize w h) ≡ counted n = sym (ap (λ (p : Picture). p .answer) (picture-raw header w h body work image m et eb)) ∙ e in
+        let en : n ≡ imageSize w h = cc in
+        size m et en
+
+    by-tests : (a : Answer) → tested header w h (length body) (length work) (length image) ≡ a → n ≤ 201326592
+    by-tests (refused r) et = none-read (sym e ∙ ap (λ (p : Picture). p .answer) (picture-refused header w h body work image r et))
+    by-tests (counted m) et = read m et (header .«enable_rle_compression») refl
+
+-- ---- the sizes that were tested, by the kind of picture
 
 pub total-append : (size : PlaneAt → ℕ) (xs ys : List PlaneAt) → total size (xs ++ ys) ≡ total size xs + total size ys
 unfolding total

@@ -16,45 +16,18 @@ not-counted e = let z : _≡_ {A = ℕ} 0 1 = cc in absurd (omega arith)
 
 -- ---- a test that refuses, and one that lets pass
 
-module _ {ℓ} {A : Type ℓ} (refuse : ℕ → A) (t : Test) (tests : List Test) (passed : A) where
-  pub refuses : t .given ≡ true → downwards refuse (t ∷ tests) passed ≡ refuse (t .number)
+module _ (t : Test) (tests : List Test) (passed : Answer) where
+  pub refuses : t .given ≡ true → downwards (t ∷ tests) passed ≡ refused (t .number)
   unfolding downwards
   refuses e = rw e
 
-  pub passes : t .given ≡ false → downwards refuse (t ∷ tests) passed ≡ downwards refuse tests passed
+  pub passes : t .given ≡ false → downwards (t ∷ tests) passed ≡ downwards tests passed
   unfolding downwards
   passes e = rw e
 
-pub none-left {ℓ} : {A : Type ℓ} (refuse : ℕ → A) (passed : A) → downwards refuse [] passed ≡ passed
+pub none-left : (passed : Answer) → downwards [] passed ≡ passed
 unfolding downwards
-none-left refuse passed = refl
-
--- ---- the answer of the tests says which of them refused, whatever a refusal comes to
-
--- what an answer comes to
-abbrev pub comesTo {ℓ} : {A : Type ℓ} (refuse : ℕ → A) (passed : A) → Answer → A
-comesTo refuse passed (counted n) = passed
-comesTo refuse passed (refused r) = refuse r
-
-module _ {ℓ} {A : Type ℓ} (refuse : ℕ → A) (passed : A) (n : ℕ) where
-  pub downwards-told : (tests : List Test) → downwards refuse tests passed ≡ comesTo refuse passed (downwards refused tests (counted n))
-  unfolding downwards
-  downwards-told [] = refl
-  downwards-told (t ∷ tests) = go (t .given) (downwards-told tests)
-    where
-      go : (b : Bool) → downwards refuse tests passed ≡ comesTo refuse passed (downwards refused tests (counted n))
-          → choose b (refuse (t .number)) (downwards refuse tests passed) ≡ comesTo refuse passed (choose b (refused (t .number)) (downwards refused tests (counted n)))
-      go true e = refl
-      go false e = e
-
-  pub sides-told : (w h : ℕ) (inside : A) (answer : Answer) → inside ≡ comesTo refuse passed answer → withinSides refuse w h inside ≡ comesTo refuse passed (withinSides refused w h answer)
-  unfolding withinSides
-  sides-told w h inside answer e = go (eqb w 0 || eqb h 0) (ltb 8192 w || ltb 8192 h)
-    where
-      go : (a b : Bool) → choose a (refuse 1) (choose b (refuse 2) inside) ≡ comesTo refuse passed (choose a (refused 1) (choose b (refused 2) answer))
-      go true b = refl
-      go false true = refl
-      go false false = e
+none-left passed = refl
 
 -- ---- what holds where all passed
 
@@ -82,10 +55,10 @@ sides-passed w h n answer e = go (eqb w 0) (eqb h 0) (ltb 8192 w) (ltb 8192 h) r
       left = e;
     }
 
-pub test-passed : (t : Test) (tests : List Test) (answer : Answer) (n : ℕ) → downwards refused (t ∷ tests) answer ≡ counted n → (t .given ≡ false) × (downwards refused tests answer ≡ counted n)
+pub test-passed : (t : Test) (tests : List Test) (answer : Answer) (n : ℕ) → downwards (t ∷ tests) answer ≡ counted n → (t .given ≡ false) × (downwards tests answer ≡ counted n)
 unfolding downwards
 test-passed t tests answer n e = go (t .given) refl e
   where
-    go : (b : Bool) → t .given ≡ b → choose b (refused (t .number)) (downwards refused tests answer) ≡ counted n → (t .given ≡ false) × (downwards refused tests answer ≡ counted n)
+    go : (b : Bool) → t .given ≡ b → choose b (refused (t .number)) (downwards tests answer) ≡ counted n → (t .given ≡ false) × (downwards tests answer ≡ counted n)
     go true eb e = not-counted e
     go false eb e = (eb, e)

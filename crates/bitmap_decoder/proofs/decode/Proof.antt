@@ -3,7 +3,8 @@ use mathlib.Core.Path.{refl, sym, ap, _∙_}
 use lib.ListN.{length}
 use Rattle.bitmap_format.specs.Picture.{refusal, toldDecoded}
 use Rattle.bitmap_format.proofs.Picture.{rle-room, raw-room}
-use Rattle.bitmap_decoder.proofs.Tested.{Passed, passed, picture-refused, picture-rle, picture-raw}
+use Rattle.bitmap_format.proofs.Tested.{Passed, passed}
+use Rattle.bitmap_format.proofs.Picture.{picture-refused, picture-rle, picture-raw}
 use Rattle.bitmap_decoder.proofs.Pictures.{same-left, raw-painted}
 use borrow.Author.Needs.{needs}
 use Rattle.bitmap_decoder.proofs.decode.Statement.{statement}

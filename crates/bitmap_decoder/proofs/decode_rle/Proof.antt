@@ -1,4 +1,5 @@
-use Rattle.bitmap_decoder.proofs.Pictures.{size-most}
+use Rattle.bitmap_format.specs.Sizes.{imageSize}
+use Rattle.bitmap_format.proofs.Sizes.{size-most}
 use native.Mathlib.Omega.{arith}
 use Rattle.rle_format.proofs.Plane.{area-most}
 use Rattle.bitmap_decoder.proofs.Pictures.{rle-refused, rle-painted}
@@ -59,6 +60,7 @@ mul-t12 c = search needs
 
 -- src/lib.rt:85:22
 mul-t17 : tie.Need-mul-t17
+unfolding imageSize
 mul-t17 c =
     let s = (c .before .before .before .before .before .before .before .before .before .before .before .before .before .before .before) in
     omega (arith, size-most (s .args .width) (s .args .height) (s .pre .1) (s .pre .2))

@@ -2,7 +2,7 @@ use mathlib.Core.Path.{_≡_, sym, ap, _∙_}
 use Rattle.rle_format.specs.Answer.{counted}
 use Rattle.rle_format.proofs.Sides.{in-sides}
 use Rattle.bitmap_format.specs.Sizes.{leastBody, workSize, imageSize}
-use Rattle.bitmap_decoder.proofs.Tested.{loss-refused, body-refused, work-refused, image-refused, all-passed}
+use Rattle.bitmap_format.proofs.Tested.{loss-refused, body-refused, work-refused, image-refused, all-passed}
 use borrow.Author.Needs.{needs}
 use Rattle.bitmap_decoder.proofs.tests.test_slices.Statement.{statement}
 use Rattle.bitmap_decoder.proofs.tests.test_slices.Tie as tie
