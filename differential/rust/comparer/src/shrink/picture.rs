@@ -5,10 +5,17 @@ use super::{lower, lower_bytes, pieces, plain};
 use crate::picture::{Form, OwnedPicture, Planes, Sizes};
 use std::ops::Range;
 
+/// Longer bodies lose rows and columns before anything else is tried: every look at them takes long.
+const LONG: usize = 1 << 16;
+
 /// Of form, sides, body length, slice lengths, bytes and the slices' content each lowers one and none that stands before it,
 /// so shrinking ends.
 pub fn smaller(case: &OwnedPicture) -> impl Iterator<Item = OwnedPicture> + '_ {
-    with_plainer_form(case)
+    let long = case.body.len() > LONG;
+    long.then(|| with_smaller_planes(case))
+        .into_iter()
+        .flatten()
+        .chain(with_plainer_form(case))
         .chain(with_lower_sides(case))
         .chain(with_smaller_planes(case))
         .chain(with_shorter_body(case))
