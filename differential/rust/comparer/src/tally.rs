@@ -115,7 +115,7 @@ const KINDS: [(Kind, Part, &str); 45] = [
     (Kind::PictureOrder, Part::Pictures, "several refusals at once"),
     (Kind::PictureCut, Part::Pictures, "small RLE pictures, every cut"),
     (Kind::PictureDamaged, Part::Pictures, "small RLE pictures, every byte changed"),
-    (Kind::PictureColours, Part::Pictures, "every Y, Co, Cg at every level, 2^24 pixels each"),
+    (Kind::PictureColours, Part::Pictures, "every Y, Co, Cg at every level"),
     (Kind::PictureLongSides, Part::Pictures, "sides of 8191 and 8192"),
     (Kind::PictureLargest, Part::Pictures, "pictures of 8192 x 8192"),
     (Kind::RandomPictures, Part::Pictures, "random pictures, whole"),

@@ -134,9 +134,15 @@ fn largest(comparer: &mut Comparer) -> Outcome {
     let raw = Picture { width, height, form, body: &body, work: &[], image: &image };
     comparer.compare_picture_at(Kind::PictureLargest, raw, &BOTH_SIDES[..1])?;
     let form = Form::argb(true, true);
-    let plane = |value| original::pack(&vec![value; width * height], width, height).expect("a whole plane with room");
-    let body = [1, 2, 3, 4].map(plane).concat();
+    let body = [1, 2, 3, 4].map(|value| flat_plane(value, width, height)).concat();
     let work = long(form.work_len(width, height));
     let flat = Picture { width, height, form, body: &body, work: &work, image: &image };
     comparer.compare_picture_at(Kind::PictureLargest, flat, &BOTH_SIDES[1..])
+}
+
+/// The packing of a plane of one value. All rows under the first have the same bytes.
+fn flat_plane(value: u8, width: usize, height: usize) -> Vec<u8> {
+    let [first, two] =
+        [1, 2].map(|rows| original::pack(&vec![value; rows * width], width, rows).expect("whole rows with room"));
+    [&first[..], &two[first.len()..].repeat(height - 1)].concat()
 }
