@@ -33,17 +33,18 @@ impl Planes {
         }
     }
 
-    /// The body that these make, each plane packed by the Rust if it is RLE.
+    /// The body that these make.
     pub fn body(&self, form: Form, width: usize, height: usize) -> Vec<u8> {
-        let mut body = Vec::new();
-        for (plane, (width, height)) in self.with_sides(form, width, height) {
-            if form.rle {
-                body.extend(original::pack(plane, width, height).expect("a whole plane with room"));
-            } else {
-                body.extend_from_slice(plane);
-            }
-        }
-        body
+        self.bodies(form, width, height).concat()
+    }
+
+    /// The part of the body that each plane makes, packed by the Rust if it is RLE.
+    pub fn bodies(&self, form: Form, width: usize, height: usize) -> Vec<Vec<u8>> {
+        let packed = |(plane, (width, height)): (&[u8], (usize, usize))| match form.rle {
+            true => original::pack(plane, width, height).expect("a whole plane with room"),
+            false => plane.to_vec(),
+        };
+        self.with_sides(form, width, height).map(packed).collect()
     }
 
     fn with_sides(
