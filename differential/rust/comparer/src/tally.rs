@@ -62,6 +62,7 @@ pub enum Kind {
     PictureTable,
     PictureLevels,
     PictureSides,
+    PictureWidths,
     PictureLengths,
     PictureOrder,
     PictureCut,
@@ -84,7 +85,7 @@ pub enum Kind {
 }
 
 /// Each kind with its part and its line of the report, in the order of the enum.
-const KINDS: [(Kind, Part, &str); 45] = [
+const KINDS: [(Kind, Part, &str); 46] = [
     (Kind::Short, Part::Unpacking, "all bodies of up to 2 bytes"),
     (Kind::Alphabet, Part::Unpacking, "bodies of 3 to 5 bytes of a telling alphabet"),
     (Kind::Rooms, Part::Unpacking, "every destination length around width x height"),
@@ -111,6 +112,7 @@ const KINDS: [(Kind, Part, &str); 45] = [
     (Kind::PictureTable, Part::Pictures, "a table of sides, most of them refused"),
     (Kind::PictureLevels, Part::Pictures, "all loss levels, all definitions"),
     (Kind::PictureSides, Part::Pictures, "all sides of 1 to 9, all forms"),
+    (Kind::PictureWidths, Part::Pictures, "all widths of 10 to 100"),
     (Kind::PictureLengths, Part::Pictures, "body, work area, image around their limits"),
     (Kind::PictureOrder, Part::Pictures, "several refusals at once"),
     (Kind::PictureCut, Part::Pictures, "small RLE pictures, every cut"),

@@ -604,7 +604,7 @@ wrong!(level_7_refused, "iu 1 1 0 0 7:0 - - -", {
 
 wrong!(levels_modulo_8, "iu 1 1 0 0 9:0 - - -", {
     fn level_refused(form: Form) -> bool {
-        form.definition > AYCOCG || form.definition == AYCOCG && form.level % 8 == 0
+        form.definition > AYCOCG || form.definition == AYCOCG && form.level & 7 == 0
     }
 });
 

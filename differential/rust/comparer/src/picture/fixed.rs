@@ -28,6 +28,7 @@ pub fn run_quick(comparer: &mut Comparer) -> Outcome {
     sizes::run(comparer)?;
     refused::run(comparer, befores)?;
     small_sides(comparer, befores)?;
+    all_widths(comparer, befores)?;
     cut_and_damaged(comparer, befores)?;
     long_sides(comparer, befores)
 }
@@ -49,6 +50,19 @@ fn small_sides(comparer: &mut Comparer, befores: &mut Befores) -> Outcome {
             let sent = Sent { width, height, form, body: &body };
             befores.compare_longer(comparer, Kind::PictureSides, sent, (0, 0))?;
             befores.compare_longer(comparer, Kind::PictureSides, sent, (rng.below(9), rng.below(9)))?;
+        }
+    }
+    Ok(())
+}
+
+/// All widths of 10 to 100: whatever is done so many pixels at a time has a rest to do.
+fn all_widths(comparer: &mut Comparer, befores: &mut Befores) -> Outcome {
+    let rng = &mut Rng::new(30);
+    for (width, height) in (10..=100).flat_map(|width| (1..=3).map(move |height| (width, height))) {
+        for form in few_forms() {
+            let body = Planes::random(rng, form, width, height).body(form, width, height);
+            let sent = Sent { width, height, form, body: &body };
+            befores.compare_longer(comparer, Kind::PictureWidths, sent, (rng.below(2), rng.below(2)))?;
         }
     }
     Ok(())

@@ -120,7 +120,7 @@ fn with_smaller_planes(case: &OwnedPicture) -> impl Iterator<Item = OwnedPicture
 /// Pieces of a side, not all of it. With subsampling they are such that the chroma planes can lose a half of each.
 fn pieces_of(case: &OwnedPicture, side: usize) -> impl Iterator<Item = Range<usize>> {
     let subsampled = case.form.is_subsampled();
-    let halves = move |piece: &Range<usize>| piece.start % 2 == 0 && (piece.end % 2 == 0 || piece.end == side);
+    let halves = move |piece: &Range<usize>| piece.start & 1 == 0 && (piece.end & 1 == 0 || piece.end == side);
     pieces(side).filter(move |piece| piece.len() < side && (!subsampled || halves(piece)))
 }
 
