@@ -76,12 +76,13 @@ const PICTURES: [Place; 9] = [
         ],
     ),
     (
-        "a loss level of 0 or over 7",
+        "a loss level of 0 or over 7, a definition that there is not",
         &[
             "iu 1 1 0 1 0:0 00644000 - EE*3",
             "iu 1 1 0 1 8:0 00640100 - EE*3",
             "iu 1 1 0 1 9:0 00640100 - EE*3",
             "iu 1 1 0 1 255:0 00640100 - EE*3",
+            "iu 1 1 0 0 2:1:0 000000 - EE*3",
         ],
     ),
     (
@@ -111,7 +112,14 @@ const ALIKE: [Place; 5] = [
     ("the work area holds the planes after a picture is done", &["iu 1 1 1 1 1:0 10FF1064100A1014 EE*3 EE*3"]),
     (
         "raw and RLE, one pixel: examples 15 and 16",
-        &["iu 1 1 0 1 1:0 FF640A14 - EE*3", "iu 1 1 0 1 2:0 FF644000 - EE*3"],
+        &[
+            "iu 1 1 0 1 1:0 FF640A14 - EE*3",
+            "iu 1 1 1 1 1:1 10FF1064100A1014 EE*3 EE*3",
+            "iu 1 1 0 0 1:1 640A14 - EE*3",
+            "iu 1 1 1 0 1:0 1064100A1014 EE*3 EE*3",
+            "iu 1 1 0 1 2:1 FF644000 - EE*3",
+            "iu 1 1 1 1 2:0 10FF106410401000 EE*3 EE*3",
+        ],
     ),
     (
         "a body of its least size need not be whole: example 17",
