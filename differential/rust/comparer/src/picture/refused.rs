@@ -33,9 +33,9 @@ fn table_of_sides(comparer: &mut Comparer, befores: &mut Befores) -> Outcome {
     for (width, height) in TELLING_SIDES.into_iter().flat_map(|width| TELLING_SIDES.map(|height| (width, height))) {
         for form in few_forms().chain([Form::aycocg(true, true, 0, true), Form::aycocg(false, true, 8, false)]) {
             for body in BODIES {
-                let rooms = [(0, 0), (9, 9), (0, 64), (64, 0), (5000, 5000)];
-                let room = rooms[(width ^ height.rotate_left(3)) % 5];
-                befores.compare(comparer, Kind::PictureTable, Sent { width, height, form, body }, room)?;
+                for room in [(0, 0), (9, 9), (0, 64), (64, 0), (5000, 5000)] {
+                    befores.compare(comparer, Kind::PictureTable, Sent { width, height, form, body }, room)?;
+                }
             }
         }
     }
@@ -152,9 +152,10 @@ fn lengths(comparer: &mut Comparer, befores: &mut Befores) -> Outcome {
 
 fn in_rooms(comparer: &mut Comparer, befores: &mut Befores, sent: Sent<'_>) -> Outcome {
     let (work, image) = sent.needs();
-    // What a work area would need without subsampling, and what a raw one would need, are limits too.
-    let (full, colours) = (3 * sent.width * sent.height, Form::colour_samples(&sent.form, sent.width, sent.height));
-    let mut works = vec![0, work.saturating_sub(1), work, work + 1, work + 50, full - 1, full, colours - 1];
+    // What the planes have if they are not subsampled is a limit too, and so is what they have if the picture is raw.
+    let full = 3 * sent.width * sent.height;
+    let planes = sent.form.colour_samples(sent.width, sent.height);
+    let mut works = vec![0, work.saturating_sub(1), work, work + 1, work + 50, full - 1, full, planes - 1];
     works.sort_unstable();
     works.dedup();
     for work in works {
