@@ -234,7 +234,7 @@ wrong!(alpha_unpacked_to_nowhere, "iu 1 1 1 1 argb 10000000 EEEEEE EEEEEE", {
     }
 });
 
-wrong!(alpha_back_when_the_first_colour_plane_is_refused, "iu 3 1 1 1 argb 1000100010001001 EE*9 EE*9", {
+wrong!(alpha_back_when_the_first_colour_plane_is_refused, "iu 2 1 1 1 argb 100010001001 EE*6 EE*6", {
     fn unpack_planes(call: &mut Call) -> Result<(), i64> {
         let sides = (call.width, call.height);
         if !call.form.alpha {
@@ -328,7 +328,7 @@ wrong!(a_refused_picture_with_a_clean_work_area, "iu 1 1 1 0 argb 000000 EEEEEE 
     }
 });
 
-wrong!(a_refused_third_plane_taken_back, "iu 2 2 1 0 argb 2000002000002000002000001000 EE*12 EE*12", {
+wrong!(a_refused_third_plane_taken_back, "iu 2 1 1 0 argb 2000002000001000 EE*6 EE*6", {
     fn unpack_planes(call: &mut Call) -> Result<(), i64> {
         let from = Self::offsets(call)[2];
         let earlier = call.work.bytes()[from..].to_vec();
@@ -410,7 +410,7 @@ wrong!(the_last_pixel_left_out, "iu 1 1 0 0 argb 000000 - EEEEEE", {
     }
 });
 
-wrong!(written_before_a_later_refusal, "iu 16 1 1 0 argb 010000 EE*48 EE*48", {
+wrong!(written_before_a_later_refusal, "iu 1 1 1 0 argb 100000 EEEEEE EEEEEE", {
     fn unpack_planes(call: &mut Call) -> Result<(), i64> {
         let outcome = Right::unpack_planes(call);
         call.image.bytes_mut()[0] = call.work.bytes()[0];
@@ -654,14 +654,14 @@ wrong!(the_least_rle_body_by_48, "iu 48 1 1 0 argb 000000 - -", {
     }
 });
 
-wrong!(the_least_rle_body_without_alpha, "iu 1 3 1 1 1:1 00*7 - -", {
+wrong!(the_least_rle_body_without_alpha, "iu 1 1 1 1 argb 000000 - -", {
     fn least_rle_body(call: &Call) -> usize {
         let chroma = least_plane(Self::chroma_sides(call)).saturating_mul(2);
         least_plane((call.width, call.height)).saturating_add(chroma)
     }
 });
 
-wrong!(the_least_rle_body_of_full_planes, "iu 1 3 1 0 1:1 00*7 - -", {
+wrong!(the_least_rle_body_of_full_planes, "iu 1 2 1 0 1:1 00*4 - -", {
     fn least_rle_body(call: &Call) -> usize {
         least_plane((call.width, call.height)).saturating_mul(3 + usize::from(call.form.alpha))
     }

@@ -3,10 +3,13 @@
 use super::call::lower_side;
 use super::{lower, lower_bytes, pieces, plain};
 use crate::picture::{Form, OwnedPicture, Planes, Sizes};
+use crate::planes::segment_starts;
 use std::ops::Range;
 
 /// Longer bodies lose rows and columns before anything else is tried: every look at them takes long.
 const LONG: usize = 1 << 16;
+/// Of bodies up to this length segments are left out.
+const SHORT: usize = 64;
 
 /// Of form, sides, body length, slice lengths, bytes and the slices' content each lowers one and none that stands before it,
 /// so shrinking ends.
@@ -18,6 +21,7 @@ pub fn smaller(case: &OwnedPicture) -> impl Iterator<Item = OwnedPicture> + '_ {
         .chain(with_plainer_form(case))
         .chain(with_lower_sides(case))
         .chain(with_smaller_planes(case))
+        .chain(with_segments_left_out(case))
         .chain(with_shorter_body(case))
         .chain(with_shorter_slices(case))
         .chain(with_lower_bytes(case))
@@ -143,6 +147,25 @@ fn cut_out(planes: &Planes, case: &OwnedPicture, rows: &Range<usize>, columns: &
 fn without(plane: &[u8], width: usize, rows: &Range<usize>, columns: &Range<usize>) -> Vec<u8> {
     let kept = plane.chunks(width).enumerate().filter(|(row, _)| !rows.contains(row));
     kept.flat_map(|(_, row)| [&row[..columns.start], &row[columns.end..]].concat()).collect()
+}
+
+/// One row or column fewer, and one or two neighbouring segments of an RLE body: a body that is not whole has no planes to
+/// take it from.
+fn with_segments_left_out(case: &OwnedPicture) -> impl Iterator<Item = OwnedPicture> + '_ {
+    let short = case.form.rle && case.body.len() <= SHORT;
+    let mut ends = if short { segment_starts(&case.body) } else { Vec::new() };
+    ends.push(case.body.len());
+    let sides = [(case.width, case.height.wrapping_sub(1)), (case.width.wrapping_sub(1), case.height)];
+    let possible = sides.into_iter().filter(|&(width, height)| width < case.width || height < case.height);
+    possible.flat_map(move |sides| {
+        let ranges = [1, 2].map(|count| ends.iter().zip(ends.iter().skip(count)).map(|(&from, &to)| from..to));
+        let ranges: Vec<Range<usize>> = ranges.into_iter().flatten().collect();
+        ranges.into_iter().map(move |range| {
+            let mut body = case.body.clone();
+            body.drain(range.start..range.end.min(case.body.len()));
+            remade(case, case.form, sides, body)
+        })
+    })
 }
 
 /// Bodies with a piece left out.
