@@ -73,7 +73,12 @@ fn print_line(picture: &Picture, (rust, port): (i64, i64)) {
     println!("| {:<28} | {share:>11.3} | {rust:>14.3} | {port:>14.3} | {:>9.2} |", picture.name, port / rust);
 }
 
-/// Raw AYCoCg pictures of noise.
+/// Rises by one every so many samples across and down.
+fn gradient((width, height): (usize, usize), (across, down): (usize, usize)) -> Vec<u8> {
+    (0..width * height).map(|at| (at % width / across + at / width / down) as u8).collect()
+}
+
+/// Raw AYCoCg pictures of gradients, and one of noise, which takes the Rust much longer: its clipping may branch.
 fn raw_pictures(rng: &mut Rng) -> Vec<Picture> {
     let named = [
         ("raw AYCoCg, alpha", true, false),
@@ -81,19 +86,23 @@ fn raw_pictures(rng: &mut Rng) -> Vec<Picture> {
         ("raw AYCoCg 2x2, alpha", true, true),
         ("raw AYCoCg 2x2", false, true),
     ];
-    let made = |(name, alpha, subsampled)| {
+    let smooth = named.map(|(name, alpha, subsampled)| {
         let form = Form::aycocg(false, alpha, 3, subsampled);
-        Picture { name, form, body: rng.bytes(form.least_body(SIDE, SIDE)) }
-    };
-    named.map(made).into()
+        let (full, chroma) = ((SIDE, SIDE), form.chroma_sides(SIDE, SIDE));
+        let colours = [gradient(full, (4, 4)), gradient(chroma, (4, 2)), gradient(chroma, (8, 4))];
+        let planes = Planes { alpha: alpha.then(|| gradient(full, (8, 8))), colours };
+        Picture { name, form, body: planes.body(form, SIDE, SIDE) }
+    });
+    let form = Form::aycocg(false, false, 3, false);
+    let noise = Picture { name: "raw AYCoCg, noise", form, body: rng.bytes(form.least_body(SIDE, SIDE)) };
+    smooth.into_iter().chain([noise]).collect()
 }
 
 /// RLE pictures of three different planes of one look.
 fn rle_pictures(rng: &mut Rng) -> Vec<Picture> {
     let pages = [(); 3].map(|()| planes::flat_page(rng, SIDE, SIDE));
     let noise = [(); 3].map(|()| rng.bytes(PIXELS));
-    let slopes = [(4, 4), (4, 2), (8, 4)];
-    let gradients = slopes.map(|(x, y)| (0..PIXELS).map(|at| (at % SIDE / x + at / SIDE / y) as u8).collect());
+    let gradients = [(4, 4), (4, 2), (8, 4)].map(|slope| gradient((SIDE, SIDE), slope));
     let named = [("RLE ARGB, user interface", pages), ("RLE ARGB, noise", noise), ("RLE ARGB, gradient", gradients)];
     let made = |(name, colours)| {
         let form = Form::argb(true, false);
