@@ -1,3 +1,4 @@
+-- `unpacked_number`: a count as it is, a refusal below 0. Assumes nothing.
 use mathlib.Core.Path.{sym, ap, _∙_}
 use mir.Facts.{toZ-ofZ, toZ-pos}
 use mir.Val.{SFits}
@@ -11,8 +12,6 @@ use Rattle.rdp6.proofs.Numbers.{count-fits, refusal-fits}
 use borrow.Author.Needs.{needs}
 use Rattle.rdp6.proofs.unpacked_number.Statement.{statement}
 use Rattle.rdp6.proofs.unpacked_number.Tie as tie
-
--- `unpacked_number`: a count as it is, a refusal below 0. Assumes nothing.
 
 enum-known-answer : tie.Need-enum-known-answer
 enum-known-answer c = search needs
