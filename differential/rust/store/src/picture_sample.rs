@@ -1,14 +1,14 @@
 //! Which pictures are stored: small ones of all forms, whole, cut and damaged.
 
 use crate::pictures::Pictures;
+use crate::BEFORE;
 use comparer::picture::examples::EXAMPLES;
 use comparer::picture::refused::{few_forms, FLAGS};
 use comparer::picture::{Form, OwnedPicture, Planes};
 use comparer::planes::{self, segment_starts, Look, Making, LOOKS, WIDTHS};
 use comparer::Rng;
 
-/// Every part in turn, each with numbers of its own, so that a change in one leaves the others as they are but for what the
-/// slices hold before.
+/// Every part in turn, each with numbers of its own, so that a change in one leaves the others as they are.
 pub fn keep_all(stored: &mut Pictures) {
     examples(stored);
     every_form(stored, &mut Rng::new(1));
@@ -22,10 +22,14 @@ pub fn keep_all(stored: &mut Pictures) {
     refused_planes(stored, &mut Rng::new(9));
 }
 
-/// Document 01's examples and the like, as far as they are inside the domain.
+/// Document 01's examples and the like, as far as they are inside the domain, on slices as all cases here have them.
 fn examples(stored: &mut Pictures) {
     let cases = EXAMPLES.iter().map(|example| OwnedPicture::parse(example.0).expect("the table's own text"));
-    cases.filter(|case| case.view().refused_outside().is_none()).for_each(|case| stored.keep_case(&case));
+    for mut case in cases.filter(|case| case.view().refused_outside().is_none()) {
+        case.work.fill(BEFORE);
+        case.image.fill(BEFORE);
+        stored.keep_case(&case);
+    }
 }
 
 fn random_level(rng: &mut Rng) -> u8 {

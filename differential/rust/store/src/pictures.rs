@@ -7,8 +7,6 @@ use comparer::Rng;
 
 /// Longer lines are left out.
 const LONGEST_LINE: usize = 1000;
-/// Slices up to this length sometimes hold more than one value before the call.
-const SHORT: usize = 24;
 
 /// Cases of pictures.
 pub struct Pictures {
@@ -30,8 +28,8 @@ fn flag(set: bool) -> u8 {
 impl Pictures {
     /// A work area and an image as long as needed, or longer by these.
     pub fn keep(&mut self, form: Form, (width, height): (usize, usize), body: &[u8], (work, image): (usize, usize)) {
-        let work = self.before(form.work_len(width, height) + work);
-        let image = self.before(3 * width * height + image);
+        let work = vec![BEFORE; form.work_len(width, height) + work];
+        let image = vec![BEFORE; 3 * width * height + image];
         self.keep_case(&OwnedPicture { width, height, form, body: body.to_vec(), work, image });
     }
 
@@ -41,18 +39,11 @@ impl Pictures {
         self.keep(form, sides, body, (more[0], more[1]));
     }
 
-    fn before(&mut self, len: usize) -> Vec<u8> {
-        if len <= SHORT && self.rng.once_in(3) {
-            self.rng.bytes(len)
-        } else {
-            vec![BEFORE; len]
-        }
-    }
-
     /// Asks the Rust and keeps its answer. Bytes of the work area beyond the planes, which the Rust would cut off, are those that
     /// were there; so are bytes of the image beyond what it makes.
     pub fn keep_case(&mut self, case: &OwnedPicture) {
         assert_eq!(case.view().refused_outside(), None, "a case outside the domain");
+        assert!(case.work.iter().chain(&case.image).all(|&byte| byte == BEFORE), "slices that hold something else");
         let (mut work, mut image) = (case.work.clone(), Vec::new());
         let answer = case.view().by_rust(&mut work, &mut image).expect("a form that the Rust has");
         let Some(number) = answer.number() else {
@@ -62,9 +53,9 @@ impl Pictures {
         image.extend_from_slice(&case.image[image.len()..]);
         let Form { rle, alpha, definition, level, subsampled } = case.form;
         let flags = format!("{} {} {definition} {level} {}", flag(rle), flag(alpha), flag(subsampled));
-        let before = [&case.body, &case.work, &case.image].map(|some| bytes::text(some)).join(" ");
-        let after = [&work, &image].map(|some| bytes::text(some)).join(" ");
-        let line = format!("{} {} {flags} {before} {number} {after}\n", case.width, case.height);
+        let rooms = format!("{} {}", work.len(), image.len());
+        let bytes = [&case.body, &work, &image].map(|some| bytes::text(some)).join(" ");
+        let line = format!("{} {} {flags} {rooms} {number} {bytes}\n", case.width, case.height);
         if line.len() <= LONGEST_LINE {
             self.lines.add(line);
         }
