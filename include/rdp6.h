@@ -16,6 +16,7 @@
 #ifndef RDP6_H
 #define RDP6_H
 
+#include <stdbool.h>
 #include <stddef.h>
 #include <stdint.h>
 
@@ -29,8 +30,8 @@ enum rdp6_refusal {
     RDP6_TOO_LARGE = 2,                        /* the width or the height is over 8192 */
     RDP6_LOSS_LEVEL = 3,                       /* AYCoCg with a loss level of 0 or over 7 */
     RDP6_INVALID_UNCOMPRESSED_DATA_SIZE = 4,   /* the body is shorter than its least size */
-    RDP6_SHORT_WORK = 5,                       /* the work area is shorter than the colour planes */
-    RDP6_SHORT_IMAGE = 6,                      /* the image is shorter than its pixels */
+    RDP6_SHORT_WORK = 5,                       /* the work area is shorter than the three colour planes */
+    RDP6_SHORT_IMAGE = 6,                      /* the image is shorter than 3 * width * height */
     RDP6_READ_COMPRESSED_DATA = 7,             /* a control byte or a raw byte is missing */
     RDP6_INVALID_SEGMENT_HEADER = 8,           /* a control byte is 0 */
     RDP6_SEGMENT_DO_NOT_FIT_SCANLINE = 9,      /* a segment passes the width */
@@ -67,6 +68,57 @@ int64_t rdp6_decompress_8bpp_plane(const uint8_t *src, size_t src_len, uint8_t *
  *   12  the next segment does not fit into dst: the segments before it are written whole, the rest of dst is untouched
  */
 int64_t rdp6_compress_8bpp_plane(const uint8_t *src, size_t src_len, uint8_t *dst, size_t dst_len, size_t width, size_t height);
+
+/* What the planes of a picture hold. */
+enum rdp6_definition {
+    RDP6_ARGB = 0,   /* R, G and B */
+    RDP6_AYCOCG = 1  /* Y, Co and Cg, with a loss level and perhaps subsampled */
+};
+
+/*
+ * Unpacks a picture (MS-RDPEGDI 2.2.2.5.1, 3.1.9.1) from its body, which is what follows the header byte, into the first
+ * 3 * width * height bytes of image: R, G and B of each pixel, row by row from the top. Answers that number. The bytes of image and of
+ * work behind what is written are untouched.
+ *
+ *   rle                 the planes are RLE planes, one after the other; else they are raw samples
+ *   alpha               an alpha plane stands before the colour planes. It is not shown
+ *   definition          RDP6_ARGB or RDP6_AYCOCG; any other value is refused as a loss level is, 3
+ *   color_loss_level    1 to 7; not looked at for ARGB
+ *   chroma_subsampling  the chroma planes have half the sides; not looked at for ARGB
+ *
+ * With chroma = ((width + 1) / 2) * ((height + 1) / 2) for a subsampled AYCoCg picture, else width * height, the least lengths are
+ *
+ *   body_len    raw: (1 + alpha) * width * height + 2 * chroma
+ *               RLE: (1 + alpha) * least(width, height) + 2 * least(the chroma sides), where least(w, h) = h * ((w + 46) / 47);
+ *               a longer body is accepted, and what follows the last plane is not read
+ *   work_len    RLE: width * height + 2 * chroma, which rdp6_work_size computes; raw: 0
+ *   image_len   3 * width * height, which rdp6_image_size computes
+ *
+ * An RLE picture is unpacked by way of work, which then holds its three colour planes one after the other; the first overwrites alpha. A raw
+ * picture does not touch work, which may be NULL and 0 then.
+ *
+ * Refusals, tested in this order. The image is unchanged by every one of them:
+ *    1  width or height is 0                                          }
+ *    2  width or height is over 8192                                  }
+ *    3  AYCoCg with loss level 0 or over 7, or another definition     }  work is unchanged too
+ *    4  body_len is under its least length                            }
+ *    5  work_len is under its least length (RLE only)                 }
+ *    6  image_len is under its least length                           }
+ *    7  a control byte or a raw byte is missing   }  RLE only. In work the planes before are complete; the refused one is left as
+ *    8  a control byte is 0                       }  rdp6_decompress_8bpp_plane leaves it, and what it did not write still holds
+ *    9  a segment passes the width                }  alpha, if that is flagged and it is the first colour plane, or what was there
+ */
+int64_t rdp6_decode(bool rle, bool alpha, uint8_t definition, uint8_t color_loss_level, bool chroma_subsampling, const uint8_t *body,
+                    size_t body_len, uint8_t *work, size_t work_len, uint8_t *image, size_t image_len, size_t width, size_t height);
+
+/*
+ * The least work_len of such a picture: the bytes of its three colour planes, or 0 if it is raw. Answers 0 for sides that are refused.
+ * A definition that there is not is sized as AYCoCg.
+ */
+size_t rdp6_work_size(bool rle, uint8_t definition, bool chroma_subsampling, size_t width, size_t height);
+
+/* The least image_len of a picture, 3 * width * height. Answers 0 for sides that are refused. */
+size_t rdp6_image_size(size_t width, size_t height);
 
 #ifdef __cplusplus
 }

@@ -1,4 +1,5 @@
 pub mod Examples
+pub mod Answer
 pub mod Tests
 pub mod Sizes
 pub mod Integers

@@ -10,6 +10,7 @@ use lib.ListN.{length}
 use borrow.Author.Tests.{ltb-false, eqb-false}
 use Rattle.rle_format.specs.Choice.{choose}
 use Rattle.rle_format.specs.Answer.{Answer, counted, refused}
+use Rattle.rle_format.proofs.Answer.{not-counted}
 use Rattle.bitmap_format.specs.declared.BitmapStreamHeader.{BitmapStreamHeader}
 use Rattle.bitmap_format.specs.declared.ColorPlaneDefinition.{ColorPlaneDefinition}
 use Rattle.bitmap_format.specs.declared.ColorPlaneDefinition.the-variants.{AYCoCg}
@@ -18,7 +19,6 @@ use Rattle.bitmap_format.specs.Sizes.{samples, leastOf, total, leastBody
 use Rattle.bitmap_format.specs.UnpackPlanes.{unpackPlanes}
 use Rattle.bitmap_format.specs.Picture.{Picture, refusal, lossWrong, tested, painted, rawPicture, fromWork, rlePicture, unpackPicture}
 use Rattle.bitmap_format.proofs.Sizes.{size-most}
-use Rattle.bitmap_format.proofs.UnpackPlanes.{none-read}
 use Rattle.bitmap_format.proofs.Tested.{passed}
 
 -- ---- the picture by the answer of its tests
@@ -44,7 +44,7 @@ module _ (header : BitmapStreamHeader) (w h : ℕ) (body work image : List ℕ) 
 painted-answer : (header : BitmapStreamHeader) (w h n : ℕ) (work image : List ℕ) (a : Answer) → fromWork header w h work image a .answer ≡ counted n → n ≡ imageSize w h
 unfolding fromWork painted
 painted-answer header w h n work image (counted m) e = cc
-painted-answer header w h n work image (refused r) e = none-read (sym e)
+painted-answer header w h n work image (refused r) e = not-counted e
 
 -- a picture that was written has no more than 3 × 8,192 × 8,192 bytes
 pub written-few : (header : BitmapStreamHeader) (w h : ℕ) (body work image : List ℕ) (n : ℕ) → unpackPicture header w h body work image .answer ≡ counted n → n ≤ 201326592
@@ -66,7 +66,7 @@ written-few header w h body work image n e = by-tests (tested header w h (length
         size m et en
 
     by-tests : (a : Answer) → tested header w h (length body) (length work) (length image) ≡ a → n ≤ 201326592
-    by-tests (refused r) et = none-read (sym e ∙ ap (λ (p : Picture). p .answer) (picture-refused header w h body work image r et))
+    by-tests (refused r) et = not-counted (sym (sym e ∙ ap (λ (p : Picture). p .answer) (picture-refused header w h body work image r et)))
     by-tests (counted m) et = read m et (header .«enable_rle_compression») refl
 
 -- ---- the sizes that were tested, by the kind of picture

@@ -8,6 +8,7 @@ use lib.ListN.{length, drop, length-drop}
 use lib.Seq.{drop-drop}
 use Rattle.rle_format.specs.Answer.{Answer, counted, refused, more}
 use Rattle.rle_format.specs.Slice.{putAt}
+use Rattle.rle_format.proofs.Answer.{not-counted}
 use Rattle.rle_format.proofs.Plane.{plane-bounded}
 use Rattle.bitmap_format.specs.Planes.{PlaneAt}
 use Rattle.bitmap_format.specs.UnpackPlanes.{Worked, ahead, planeInto, unpackPlanes}
@@ -41,9 +42,6 @@ ahead-none u = go (u .work) (u .answer)
     go w (counted k) = λ i. record { work = w; answer = counted (zero-add k i) }
     go w (refused r) = refl
 
-pub none-read : {r n : ℕ} {X : Type 0} → counted n ≡ refused r → X
-none-read e = let z : _≡_ {A = ℕ} 0 1 = cc in absurd (omega arith)
-
 -- a plane reads no more than its body has
 pub read-within : (p : PlaneAt) (work body : List ℕ) (n : ℕ) → planeInto p work body .answer ≡ counted n → n ≤ length body
 read-within p work body n e =
@@ -73,7 +71,7 @@ module _ (all rest : List PlaneAt) (p : PlaneAt) (body work₀ work after : List
   planes-next m e l = go (planeInto p work (drop at body) .answer) refl e
     where
       go : (a : Answer) → planeInto p work (drop at body) .answer ≡ a → counted m ≡ more at a → PlanesHead all rest body work₀ after from m
-      go (refused r) ea e = none-read e
+      go (refused r) ea e = not-counted (sym e)
       go (counted n) ea e =
           let em : m ≡ at + n = cc in
           let bn : n ≤ length (drop at body) = read-within p work (drop at body) n ea in
@@ -94,7 +92,7 @@ module _ (all rest : List PlaneAt) (p : PlaneAt) (body work₀ work after : List
   planes-end r e = go (planeInto p work (drop at body) .answer) refl e
     where
       go : (a : Answer) → planeInto p work (drop at body) .answer ≡ a → refused r ≡ more at a → ahead from (unpackPlanes all work₀ (drop from body)) ≡ record { work = after; answer = refused r }
-      go (counted n) ea e = none-read (sym e)
+      go (counted n) ea e = not-counted e
       go (refused q) ea e = h .whole ∙ ap (ahead at) (planes-stop p rest work (drop at body) q ea) ∙ (λ i. record { work = sym wrote i; answer = sym e i })
 
 -- the last plane, read or refused
@@ -123,7 +121,7 @@ module _ (p : PlaneAt) (xs ys : List PlaneAt) (work body : List ℕ) where
       → unpackPlanes (p ∷ xs) work body .answer ≡ counted n → Then (p ∷ xs) work body n
   unfolding ahead
   then-on k n ek (refused r) eb ih e =
-      none-read (sym e ∙ ap (λ (u : Worked). u .answer) (planes-on p xs work body k ek) ∙ ap (more k) eb)
+      not-counted (sym (sym e ∙ ap (λ (u : Worked). u .answer) (planes-on p xs work body k ek) ∙ ap (more k) eb))
   then-on k n ek (counted m) eb ih e =
       let read : unpackPlanes (p ∷ xs) work body ≡ ahead k (rest k) = planes-on p xs work body k ek in
       let total : counted (k + m) ≡ counted n = sym (ap (λ (u : Worked). u .answer) read ∙ ap (more k) eb) ∙ e in
@@ -137,7 +135,7 @@ module _ (p : PlaneAt) (xs ys : List PlaneAt) (work body : List ℕ) where
       → (rest k .answer ≡ refused r → unpackPlanes (xs ++ ys) (worked p work body) (drop k body) ≡ rest k) → unpackPlanes (p ∷ xs) work body .answer ≡ refused r
       → unpackPlanes (p ∷ (xs ++ ys)) work body ≡ unpackPlanes (p ∷ xs) work body
   unfolding ahead
-  stop-on k r ek (counted m) eb ih e = none-read (sym (sym e ∙ ap (λ (u : Worked). u .answer) (planes-on p xs work body k ek) ∙ ap (more k) eb))
+  stop-on k r ek (counted m) eb ih e = not-counted (sym e ∙ ap (λ (u : Worked). u .answer) (planes-on p xs work body k ek) ∙ ap (more k) eb)
   stop-on k r ek (refused q) eb ih e =
       let same : refused q ≡ refused r = sym (ap (λ (u : Worked). u .answer) (planes-on p xs work body k ek) ∙ ap (more k) eb) ∙ e in
       planes-on p (xs ++ ys) work body k ek ∙ ap (ahead k) (ih (eb ∙ same)) ∙ sym (planes-on p xs work body k ek)
@@ -152,12 +150,12 @@ planes-then (p ∷ xs) ys work body n e = go (λ k m. planes-then xs ys (worked 
   where
     go : ((k m : ℕ) → rest p xs ys work body k .answer ≡ counted m → Then p xs ys work body xs (worked p work body) (drop k body) m) → (a : Answer) → planeInto p work body .answer ≡ a
         → Then p xs ys work body (p ∷ xs) work body n
-    go ih (refused r) ea = none-read (sym e ∙ ap (λ (u : Worked). u .answer) (planes-stop p xs work body r ea))
+    go ih (refused r) ea = not-counted (sym (sym e ∙ ap (λ (u : Worked). u .answer) (planes-stop p xs work body r ea)))
     go ih (counted k) ea = then-on p xs ys work body k n ea (rest p xs ys work body k .answer) refl (ih k) e
 
 pub planes-refused : (xs ys : List PlaneAt) (work body : List ℕ) (r : ℕ) → unpackPlanes xs work body .answer ≡ refused r → unpackPlanes (xs ++ ys) work body ≡ unpackPlanes xs work body
 unfolding unpackPlanes
-planes-refused [] ys work body r e = none-read e
+planes-refused [] ys work body r e = not-counted (sym e)
 planes-refused (p ∷ xs) ys work body r e = go (λ k. planes-refused xs ys (worked p work body) (drop k body) r) (planeInto p work body .answer) refl
   where
     go : ((k : ℕ) → rest p xs ys work body k .answer ≡ refused r → unpackPlanes (xs ++ ys) (worked p work body) (drop k body) ≡ rest p xs ys work body k) → (a : Answer) → planeInto p work body .answer ≡ a
@@ -173,11 +171,11 @@ planes-within (p ∷ xs) work body n e = go (λ k. planes-within xs (worked p wo
   where
     on : (k : ℕ) → planeInto p work body .answer ≡ counted k → ((m : ℕ) → rest p xs [] work body k .answer ≡ counted m → m ≤ length (drop k body)) → (b : Answer)
         → rest p xs [] work body k .answer ≡ b → more k b ≡ counted n → n ≤ length body
-    on k ea ih (refused r) eb es = none-read (sym es)
+    on k ea ih (refused r) eb es = not-counted es
     on k ea ih (counted m) eb es =
         let en : k + m ≡ n = cc in
         omega (arith, ih m eb, read-within p work body k ea, length-drop k body)
 
     go : ((k m : ℕ) → rest p xs [] work body k .answer ≡ counted m → m ≤ length (drop k body)) → (a : Answer) → planeInto p work body .answer ≡ a → n ≤ length body
-    go ih (refused r) ea = none-read (sym e ∙ ap (λ (u : Worked). u .answer) (planes-stop p xs work body r ea))
+    go ih (refused r) ea = not-counted (sym (sym e ∙ ap (λ (u : Worked). u .answer) (planes-stop p xs work body r ea)))
     go ih (counted k) ea = on k ea (ih k) (rest p xs [] work body k .answer) refl (sym (ap (λ (u : Worked). u .answer) (planes-on p xs work body k ea)) ∙ e)

@@ -12,6 +12,10 @@ use Rattle.rle_format.specs.declared.Packed.{Packed}
 use Rattle.rle_format.specs.declared.Packed.the-variants as packed
 use Rattle.rle_format.specs.Answer.{Answer, counted, refused, number, told, toldPacked}
 
+-- a count is no refusal
+pub not-counted : {r n : ℕ} {X : Type 0} → refused r ≡ counted n → X
+not-counted e = let z : _≡_ {A = ℕ} 0 1 = cc in absurd (omega arith)
+
 -- the refusal that has a number
 abbrev refusal : ℕ → Refusal
 refusal n =

@@ -13,6 +13,7 @@ use Rattle.rle_format.specs.Choice.{choose}
 use Rattle.rle_format.specs.Answer.{Answer, counted, refused, Outcome, stop, refuse, onto}
 use Rattle.rle_format.specs.Delta.{undelta, restoreRow}
 use Rattle.rle_format.specs.Unpack.{RowRead, full, stopped, readRow, rowOutcome, unpackRows, unpackPlane}
+use Rattle.rle_format.proofs.Answer.{not-counted}
 use Rattle.rle_format.proofs.Cases.{le-or-gt, eq-or-ne}
 use Rattle.rle_format.proofs.Sides.{no-width, no-height, too-wide, too-high, in-sides}
 use Rattle.rle_format.proofs.Delta.{length-columns}
@@ -32,9 +33,6 @@ module _ (w k : ℕ) (above : Option (List ℕ)) (body : List ℕ) where
   rows-stopped codes r e = cc e
 
 -- the same, told from what the row's own outcome is
-not-counted : {r n : ℕ} {X : Type 0} → refused r ≡ counted n → X
-not-counted e = let z : _≡_ {A = ℕ} 0 1 = cc in absurd (omega arith)
-
 pub record RowFull (w n : ℕ) (body : List ℕ) : Type 0 where
   pub wide : length (rowFrom w 0 body .written) ≡ w
   pub within : n ≤ length body
