@@ -1,1 +1,138 @@
-pub fn nothing() {}
+// Unpacks a picture of RDP 6.0 (MS-RDPEGDI 3.1.9.1): the Rust's rdp6/bitmap_stream/decoder.rs.
+mod colour;
+mod image;
+mod planes;
+mod row;
+mod tests;
+
+ghost use mathlib.Core.Path.{_≡_};
+ghost use mathlib.Core.Bool.{false};
+ghost use Prim.Native.Nat.{_+_, _≤_};
+ghost use lib.ListN.{length, drop};
+ghost use Rattle.rle_format.specs.Answer.{told};
+ghost use Rattle.bitmap_format.specs.Planes.{subsampled, colourPlanes, alphaPlanes};
+ghost use Rattle.bitmap_format.specs.Sizes.{samples, total, rowSize, imageSize};
+ghost use Rattle.bitmap_format.specs.Image.{imageRow, placed};
+ghost use Rattle.bitmap_format.specs.Picture.{lossWrong, rlePicture, unpackPicture, toldDecoded};
+use bitmap_format::BitmapStreamHeader;
+use bitmap_format::ColorPlaneDefinition;
+use bitmap_format::Decoded;
+use colour::AYCoCgParams;
+use image::write_argb_planes_to_rgb24;
+use image::write_aycocg_planes_to_rgb24;
+use planes::decompress_planes;
+use rle_format::Unpacked;
+use tests::first_refusal;
+
+// Writes the image of a picture, whose colour planes stand at the start of planes.
+fn write_planes(
+    header: BitmapStreamHeader,
+    planes: &[u8],
+    image: &mut [u8],
+    width: usize,
+    height: usize,
+)
+    requires { ⌜ (lossWrong (header .«color_plane_definition») ≡ false) × (width ≤ 8192) × (height ≤ 8192) × (total samples (colourPlanes (subsampled (header .«color_plane_definition»)) width height) ≤ length (now planes)) × (imageSize width height ≤ length (now image)) ⌝ }
+    ensures { λ _. ⌜ now (image .exit) ≡ placed (rowSize width) (imageRow (header .«color_plane_definition») (header .«use_alpha») width height (now (planes .entry))) height (now (image .entry)) ⌝ }
+{
+    let definition = header.color_plane_definition;
+    let alpha = header.use_alpha;
+    match definition {
+        ColorPlaneDefinition::Argb => write_argb_planes_to_rgb24(planes, image, width, height),
+        ColorPlaneDefinition::AYCoCg {
+            color_loss_level,
+            use_chroma_subsampling,
+        } => {
+            let params = AYCoCgParams {
+                color_loss_level,
+                chroma_subsampling: use_chroma_subsampling,
+                alpha,
+            };
+            write_aycocg_planes_to_rgb24(params, planes, image, width, height)
+        }
+    }
+}
+
+// The refusal of a plane as that of its picture.
+fn refused_by(answer: Unpacked) -> Decoded
+    ensures { λ r. ⌜ toldDecoded r ≡ told answer ⌝ }
+{
+    match answer {
+        Unpacked::Refused(reason) => Decoded::Refused(reason),
+        Unpacked::Read(read) => Decoded::Written(read),
+    }
+}
+
+// Unpacks an RLE picture that was tested. The image is written once all planes are read, so that no refusal touches it.
+fn decode_rle(
+    header: BitmapStreamHeader,
+    body: &[u8],
+    work: &mut [u8],
+    image: &mut [u8],
+    width: usize,
+    height: usize,
+) -> Decoded
+    requires { ⌜ (lossWrong (header .«color_plane_definition») ≡ false) × (width ≤ 8192) × (height ≤ 8192) × (total samples (colourPlanes (subsampled (header .«color_plane_definition»)) width height) ≤ length (now work)) × (imageSize width height ≤ length (now image)) ⌝ }
+    ensures answer { λ r. ⌜ toldDecoded r ≡ rlePicture header width height (now (body .entry)) (now (work .entry)) (now (image .entry)) .answer ⌝ }
+    ensures work { λ _. ⌜ now (work .exit) ≡ rlePicture header width height (now (body .entry)) (now (work .entry)) (now (image .entry)) .work ⌝ }
+    ensures image { λ _. ⌜ now (image .exit) ≡ rlePicture header width height (now (body .entry)) (now (work .entry)) (now (image .entry)) .image ⌝ }
+{
+    let answer = decompress_planes(header, body, work, width, height);
+    let Unpacked::Read(_) = answer else {
+        return refused_by(answer);
+    };
+    write_planes(header, &work[0..], image, width, height);
+    Decoded::Written(3 * width * height)
+}
+
+// The bytes of alpha in a raw body.
+fn alpha_size(alpha: bool, width: usize, height: usize) -> usize
+    requires { ⌜ (width ≤ 8192) × (height ≤ 8192) ⌝ }
+    ensures { λ r. ⌜ r ≡ total samples (alphaPlanes alpha width height) ⌝ }
+{
+    if alpha {
+        return width * height;
+    }
+    0
+}
+
+// Unpacks a raw picture that was tested: its planes stand in the body as they are, and alpha is passed over.
+fn decode_raw(
+    header: BitmapStreamHeader,
+    body: &[u8],
+    image: &mut [u8],
+    width: usize,
+    height: usize,
+)
+    requires { ⌜ (lossWrong (header .«color_plane_definition») ≡ false) × (width ≤ 8192) × (height ≤ 8192) × (total samples (alphaPlanes (header .«use_alpha») width height) + total samples (colourPlanes (subsampled (header .«color_plane_definition»)) width height) ≤ length (now body)) × (imageSize width height ≤ length (now image)) ⌝ }
+    ensures { λ _. ⌜ now (image .exit) ≡ placed (rowSize width) (imageRow (header .«color_plane_definition») (header .«use_alpha») width height (drop (total samples (alphaPlanes (header .«use_alpha») width height)) (now (body .entry)))) height (now (image .entry)) ⌝ }
+{
+    let start = alpha_size(header.use_alpha, width, height);
+    write_planes(header, &body[start..], image, width, height);
+}
+
+// Unpacks a picture from its body into the first 3 × width × height bytes of the image, R, G and B of each pixel, row by row from the
+// top, and answers how many bytes that are. An RLE picture goes by way of the work area; a raw one does not touch it.
+// On every input: refusals 1 to 9 of document 01 in that document's order, and every byte of work area and image as it says.
+pub fn decode(
+    header: BitmapStreamHeader,
+    body: &[u8],
+    work: &mut [u8],
+    image: &mut [u8],
+    width: usize,
+    height: usize,
+) -> Decoded
+    ensures answer { λ r. ⌜ toldDecoded r ≡ unpackPicture header width height (now (body .entry)) (now (work .entry)) (now (image .entry)) .answer ⌝ }
+    ensures work { λ _. ⌜ now (work .exit) ≡ unpackPicture header width height (now (body .entry)) (now (work .entry)) (now (image .entry)) .work ⌝ }
+    ensures image { λ _. ⌜ now (image .exit) ≡ unpackPicture header width height (now (body .entry)) (now (work .entry)) (now (image .entry)) .image ⌝ }
+{
+    let answer = first_refusal(header, width, height, body.len(), work.len(), image.len());
+    let Decoded::Written(_) = answer else {
+        return answer;
+    };
+    if header.enable_rle_compression {
+        return decode_rle(header, body, work, image, width, height);
+    }
+    decode_raw(header, body, image, width, height);
+    answer
+}

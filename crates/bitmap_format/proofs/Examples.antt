@@ -14,9 +14,9 @@ use Rattle.bitmap_format.specs.Planes.{chromaSide, firstPlane, secondPla
 use Rattle.bitmap_format.specs.Sizes.{total, leastBody, workSize, rowSize, imageSize}
 use Rattle.bitmap_format.specs.Image.{sample, chromaPlace, colourAt, each, imageRow, placed}
 use Rattle.bitmap_format.specs.UnpackPlanes.{ahead, unpackPlanes}
-use Rattle.bitmap_format.specs.Picture.{lossWrong, painted, rawPicture, fromWork, rlePicture, unpackPicture}
+use Rattle.bitmap_format.specs.Picture.{lossWrong, tested, painted, rawPicture, fromWork, rlePicture, unpackPicture}
 use Rattle.bitmap_format.specs.Examples.{examples, done, expected}
 
 pub examples-hold : map done examples ≡ map expected examples
-unfolding packPlane writeSegments planeSegments codesAt rowAt rowSegments segmentsFrom segmentsOf longRun deltaCode difference unpackPlane unpackRows readRow readSegment rawCount runLength undelta differenceOf withinSides stop onto over putAt downwards signedByte chroma clip ycocg aycocgColour chromaSide firstPlane secondPlane thirdPlane colourPlanes alphaPlanes planesOf total leastBody workSize rowSize imageSize sample chromaPlace colourAt each imageRow placed ahead unpackPlanes lossWrong painted rawPicture fromWork rlePicture unpackPicture
+unfolding packPlane writeSegments planeSegments codesAt rowAt rowSegments segmentsFrom segmentsOf longRun deltaCode difference unpackPlane unpackRows readRow readSegment rawCount runLength undelta differenceOf withinSides stop onto over putAt downwards signedByte chroma clip ycocg aycocgColour chromaSide firstPlane secondPlane thirdPlane colourPlanes alphaPlanes planesOf total leastBody workSize rowSize imageSize sample chromaPlace colourAt each imageRow placed ahead unpackPlanes lossWrong tested painted rawPicture fromWork rlePicture unpackPicture
 examples-hold = refl

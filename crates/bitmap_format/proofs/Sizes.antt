@@ -11,7 +11,7 @@ use Rattle.rle_format.specs.Choice.{choose}
 use Rattle.rle_format.proofs.Plane.{area-most}
 use Rattle.bitmap_format.specs.declared.BitmapStreamHeader.{BitmapStreamHeader}
 use Rattle.bitmap_format.specs.Planes.{planeAt, subsampled, chromaSide, firstPlane, secondPlane, thirdPlane, colourPlanes, alphaPlanes, planesOf}
-use Rattle.bitmap_format.specs.Sizes.{samples, leastOf, total, leastBody, workSize}
+use Rattle.bitmap_format.specs.Sizes.{samples, leastOf, total, leastBody, workSize, imageSize}
 
 -- ---- a choice whose test is known
 
@@ -139,3 +139,12 @@ module _ (header : BitmapStreamHeader) (w h : ℕ) (s : Bool) (es : s ≡ subsam
   pub work-rle : (colour : ℕ) → header .«enable_rle_compression» ≡ true → colour ≡ total (leastOf false) (colourPlanes s w h) → colour ≡ workSize header w h
   unfolding workSize
   work-rle colour e ec = colour-of false colour ec ∙ sym (choose-first _ _ _ e)
+
+-- ---- the image
+
+pub size-most : (w h : ℕ) → w ≤ 8192 → h ≤ 8192 → imageSize w h ≤ 201326592
+unfolding imageSize
+size-most w h lw lh = mul-le-mul (three w lw) lh
+  where
+    three : (n : ℕ) → n ≤ 8192 → 3 * n ≤ 24576
+    three n l = omega arith

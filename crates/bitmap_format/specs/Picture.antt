@@ -43,6 +43,12 @@ pictureTests header width height body work image =
     ∷ test 6 (ltb image (imageSize width height))
     ∷ []
 
+-- what the tests answer: the number of the first that refuses, or the bytes of the image, which is the picture's answer if its planes are
+-- right. The last three numbers are the lengths of the slices
+unfoldable pub tested : BitmapStreamHeader → (width height body work image : ℕ) → Answer
+tested header width height body work image =
+    withinSides refused width height (downwards (pictureTests header width height body work image) (counted (imageSize width height)))
+
 -- the image is written from the colour planes at the start of `planes`; "the answer is their number"
 unfoldable pub painted : BitmapStreamHeader → (width height : ℕ) (planes work image : List ℕ) → Picture
 painted header width height planes work image = record {
@@ -66,12 +72,14 @@ rlePicture header width height body work image =
     let u : Worked = unpackPlanes (planesOf header width height) work body in
     fromWork header width height (u .work) image (u .answer)
 
+-- "Refusals 1 to 6 .. change no slice"
 unfoldable pub unpackPicture : BitmapStreamHeader → (width height : ℕ) (body work image : List ℕ) → Picture
 unpackPicture header width height body work image =
-    withinSides (refusal work image) width height
-    (downwards (refusal work image) (pictureTests header width height (length body) (length work) (length image))
-    (choose (header .«enable_rle_compression») (rlePicture header width height body work image)
-    (rawPicture header width height body work image)))
+    elim (tested header width height (length body) (length work) (length image)) [
+      | refused r ↦ refusal work image r
+      | counted n ↦ choose (header .«enable_rle_compression») (rlePicture header width height body work image)
+          (rawPicture header width height body work image)
+    ]
 
 -- the answer of a picture that is unpacked
 abbrev pub toldDecoded : Decoded → Answer

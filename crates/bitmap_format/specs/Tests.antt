@@ -3,6 +3,7 @@ use Prim.Native.Nat.{ℕ}
 use mathlib.Core.Bool.{Bool}
 use mathlib.Core.List.{List, [], _∷_}
 use Rattle.rle_format.specs.Choice.{choose}
+use Rattle.rle_format.specs.Answer.{Answer, refused}
 
 -- a line of the table: its number, "Given exactly if" so
 pub record Test : Type 0 where
@@ -12,7 +13,7 @@ pub record Test : Type 0 where
 abbrev pub test : (number : ℕ) (given : Bool) → Test
 test n g = record { number = n; given = g }
 
--- `refuse` is what a refusal of that number comes to, `passed` what follows where no line refuses
-unfoldable pub downwards {ℓ} : {A : Type ℓ} (refuse : ℕ → A) (tests : List Test) (passed : A) → A
-downwards refuse [] passed = passed
-downwards refuse (t ∷ tests) passed = choose (t .given) (refuse (t .number)) (downwards refuse tests passed)
+-- the first line that refuses gives its number; `passed` is the answer where none does
+unfoldable pub downwards : (tests : List Test) (passed : Answer) → Answer
+downwards [] passed = passed
+downwards (t ∷ tests) passed = choose (t .given) (refused (t .number)) (downwards tests passed)

@@ -12,9 +12,12 @@ use Rattle.rle_format.specs.declared.Packed.{Packed}
 use Rattle.rle_format.specs.declared.Packed.the-variants as packed
 use Rattle.rle_format.specs.Answer.{number, told, toldPacked}
 use Rattle.rle_format.proofs.Answer.{numbers-few}
+use Rattle.bitmap_format.specs.declared.Decoded.{Decoded}
+use Rattle.bitmap_format.specs.declared.Decoded.the-variants as decoded
+use Rattle.bitmap_format.specs.Picture.{toldDecoded}
 use Rattle.rdp6.specs.Number.{cNumber}
 
-pub count-fits : (n : ℕ) → n ≤ 134217728 → SFits w64 (pos n)
+pub count-fits : (n : ℕ) → n ≤ 201326592 → SFits w64 (pos n)
 count-fits n h = record { sfits = omega arith }
 
 pub refusal-fits : (r : ℕ) → r ≤ 12 → SFits w64 (negℤ (pos r))
@@ -28,9 +31,13 @@ minus-is n r e h =
     ap (λ (k : ℤ). pos 0 -ℤ k) z ∙ +ℤ-idl (negℤ (pos n)) ∙ ap (λ (k : ℕ). negℤ (pos k)) e
 
 pub unpacked-fits : (a : Unpacked) → ((n : ℕ) → a ≡ unpacked.Read n → n ≤ 134217728) → SFits w64 (cNumber (told a))
-unpacked-fits (unpacked.Read n) h = count-fits n (h n refl)
+unpacked-fits (unpacked.Read n) h = count-fits n (omega (arith, h n refl))
 unpacked-fits (unpacked.Refused r) h = refusal-fits (number r) (numbers-few r)
 
 pub packed-fits : (a : Packed) → ((n : ℕ) → a ≡ packed.Written n → n ≤ 134217728) → SFits w64 (cNumber (toldPacked a))
-packed-fits (packed.Written n) h = count-fits n (h n refl)
+packed-fits (packed.Written n) h = count-fits n (omega (arith, h n refl))
 packed-fits (packed.Refused r) h = refusal-fits (number r) (numbers-few r)
+
+pub decoded-fits : (a : Decoded) → ((n : ℕ) → a ≡ decoded.Written n → n ≤ 201326592) → SFits w64 (cNumber (toldDecoded a))
+decoded-fits (decoded.Written n) h = count-fits n (h n refl)
+decoded-fits (decoded.Refused r) h = refusal-fits (number r) (numbers-few r)

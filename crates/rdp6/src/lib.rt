@@ -1,13 +1,21 @@
 // The C interface of librdp6.a; include/rdp6.h has the prototypes. A slice passes as a pointer and a length. Each function calls
 // the entry of the same name and turns its answer into one number; nothing is kept between calls.
 ghost use mathlib.Core.Path.{_≡_};
+ghost use mathlib.Core.Bool.{false};
 ghost use Prim.Native.Nat.{ℕ, _≤_};
 ghost use lib.ListN.{length};
 ghost use Rattle.rle_format.specs.Answer.{refused, number, told, toldPacked};
+ghost use Rattle.rle_format.specs.Sides.{withinSides};
 ghost use Rattle.rle_format.specs.Slice.{over};
 ghost use Rattle.rle_format.specs.Unpack.{unpackPlane};
 ghost use Rattle.rle_format.specs.Pack.{packPlane};
+ghost use Rattle.bitmap_format.specs.Sizes.{workSize, imageSize};
+ghost use Rattle.bitmap_format.specs.Picture.{unpackPicture, toldDecoded};
 ghost use Rattle.rdp6.specs.Number.{cNumber};
+ghost use Rattle.rdp6.specs.Header.{cDefinition, cHeader};
+use bitmap_format::BitmapStreamHeader;
+use bitmap_format::ColorPlaneDefinition;
+use bitmap_format::Decoded;
 use rle_format::Packed;
 use rle_format::Refusal;
 use rle_format::Unpacked;
@@ -41,6 +49,53 @@ fn packed_number(answer: Packed) -> i64
     }
 }
 
+// The number that an answer of unpacking a picture is. A picture never has more than 3 × 8,192 × 8,192 bytes.
+fn decoded_number(answer: Decoded) -> i64
+    requires { ⌜ ((n : ℕ) → answer ≡ Decoded.Written n → n ≤ 201326592) ⌝ }
+    ensures { λ r. ⌜ r ≡ cNumber (toldDecoded answer) ⌝ }
+{
+    match answer {
+        Decoded::Written(written) => written as i64,
+        Decoded::Refused(reason) => refusal_number(reason),
+    }
+}
+
+// The plane definition that C's numbers stand for.
+fn definition_of(definition: u8, level: u8, subsampling: bool) -> ColorPlaneDefinition
+    ensures { λ r. ⌜ r ≡ cDefinition definition level subsampling ⌝ }
+{
+    if definition == 0 {
+        return ColorPlaneDefinition::Argb;
+    }
+    if definition == 1 {
+        return ColorPlaneDefinition::AYCoCg {
+            color_loss_level: level,
+            use_chroma_subsampling: subsampling,
+        };
+    }
+    ColorPlaneDefinition::AYCoCg {
+        color_loss_level: 0,
+        use_chroma_subsampling: subsampling,
+    }
+}
+
+// The header record that C's flags and numbers stand for.
+fn header_of(
+    rle: bool,
+    alpha: bool,
+    definition: u8,
+    level: u8,
+    subsampling: bool,
+) -> BitmapStreamHeader
+    ensures { λ r. ⌜ r ≡ cHeader rle alpha definition level subsampling ⌝ }
+{
+    BitmapStreamHeader {
+        enable_rle_compression: rle,
+        use_alpha: alpha,
+        color_plane_definition: definition_of(definition, level, subsampling),
+    }
+}
+
 #[no_mangle]
 pub extern "C" fn rdp6_decompress_8bpp_plane(
     src: &[u8],
@@ -65,4 +120,46 @@ pub extern "C" fn rdp6_compress_8bpp_plane(
     ensures slice { λ _. ⌜ now (dst .exit) ≡ over (now (dst .entry)) (packPlane width height (length (now (dst .entry))) (now (src .entry)) .written) ⌝ }
 {
     packed_number(rle_encoder::compress_8bpp_plane(src, dst, width, height))
+}
+
+#[no_mangle]
+pub extern "C" fn rdp6_decode(
+    rle: bool,
+    alpha: bool,
+    definition: u8,
+    level: u8,
+    subsampling: bool,
+    body: &[u8],
+    work: &mut [u8],
+    image: &mut [u8],
+    width: usize,
+    height: usize,
+) -> i64
+    ensures answer { λ r. ⌜ r ≡ cNumber (unpackPicture (cHeader rle alpha definition level subsampling) width height (now (body .entry)) (now (work .entry)) (now (image .entry)) .answer) ⌝ }
+    ensures work { λ _. ⌜ now (work .exit) ≡ unpackPicture (cHeader rle alpha definition level subsampling) width height (now (body .entry)) (now (work .entry)) (now (image .entry)) .work ⌝ }
+    ensures image { λ _. ⌜ now (image .exit) ≡ unpackPicture (cHeader rle alpha definition level subsampling) width height (now (body .entry)) (now (work .entry)) (now (image .entry)) .image ⌝ }
+{
+    let header = header_of(rle, alpha, definition, level, subsampling);
+    decoded_number(bitmap_decoder::decode(header, body, work, image, width, height))
+}
+
+#[no_mangle]
+pub extern "C" fn rdp6_work_size(
+    rle: bool,
+    definition: u8,
+    subsampling: bool,
+    width: usize,
+    height: usize,
+) -> usize
+    ensures { λ r. ⌜ r ≡ withinSides (λ (_ : ℕ). 0) width height (workSize (cHeader rle false definition 0 subsampling) width height) ⌝ }
+{
+    let header = header_of(rle, false, definition, 0, subsampling);
+    bitmap_format::work_size(header, width, height)
+}
+
+#[no_mangle]
+pub extern "C" fn rdp6_image_size(width: usize, height: usize) -> usize
+    ensures { λ r. ⌜ r ≡ withinSides (λ (_ : ℕ). 0) width height (imageSize width height) ⌝ }
+{
+    bitmap_format::image_size(width, height)
 }

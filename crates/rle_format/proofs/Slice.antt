@@ -117,6 +117,12 @@ put-back-is d ys a =
     let none : drop (length d - a) (drop a d) ≡ [] = drop-of-length-le (drop a d) short in
     ap (λ (l : List ℕ). take a d ++ (ys ++ l)) none ∙ ap (λ (l : List ℕ). take a d ++ l) (append-nil ys)
 
+-- d is as long as before, if the part came back as long as it was lent
+pub length-put-back : (d ys : List ℕ) (a : ℕ) → length ys ≡ length (tail d a) → length (put-back d a ys) ≡ length d
+length-put-back d ys a e =
+    let n : length (tail d a) ≡ length d - a = ap length (tail-is d a) ∙ length-drop a d in
+    simp (length-append, length-take, length-drop) (omega arith)
+
 -- what the callee wrote from its first place on, as a write of the whole
 pub lent-over : (d ys vs : List ℕ) (a : ℕ) → ys ≡ over (tail d a) vs → put-back d a ys ≡ putAt d a vs
 unfolding putAt over
@@ -180,3 +186,15 @@ put-over d₀ d at vs h e =
     let back : drop (at + length vs) d ≡ drop (length (take at d ++ vs)) d₀ =
     sym (drop-drop (length vs) at d) ∙ ap (drop (length vs)) e ∙ drop-drop (length vs) at d₀ ∙ rw n in
     ap (λ (l : List ℕ). take at d ++ (vs ++ l)) back ∙ sym (append-assoc (take at d) vs (drop (length (take at d ++ vs)) d₀))
+
+-- a write right after the first places that were written
+pub over-more : (d xs ys : List ℕ) (n : ℕ) → length xs ≡ n → putAt (over d xs) n ys ≡ over d (xs ++ ys)
+unfolding over putAt
+over-more d xs ys n l =
+    let front : take n (xs ++ drop (length xs) d) ≡ xs = take-at xs (drop (length xs) d) n l in
+    let back : drop (n + length ys) (xs ++ drop (length xs) d) ≡ drop (length (xs ++ ys)) d =
+    ap (λ (k : ℕ). drop (k + length ys) (xs ++ drop (length xs) d)) (sym l)
+    ∙ drop-append-add xs (drop (length xs) d) (length ys)
+    ∙ drop-drop (length ys) (length xs) d
+    ∙ ap (λ (k : ℕ). drop k d) (sym (length-append xs ys)) in
+    (λ i. front i ++ (ys ++ back i)) ∙ sym (append-assoc xs ys (drop (length (xs ++ ys)) d))

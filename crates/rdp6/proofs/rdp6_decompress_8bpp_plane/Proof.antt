@@ -14,8 +14,6 @@ use borrow.Author.Needs.{needs}
 use Rattle.rdp6.proofs.rdp6_decompress_8bpp_plane.Statement.{statement}
 use Rattle.rdp6.proofs.rdp6_decompress_8bpp_plane.Tie as tie
 
--- `rdp6_decompress_8bpp_plane`: what the entry ensures, its answer as a number. Assumes nothing.
-
 -- a plane that was read has read few bytes
 few : (c : tie.After-decompress-8bpp-plane) (n : ℕ) → c .decompress-8bpp-plane .result ≡ Read n → n ≤ 134217728
 few c n e =

@@ -1,0 +1,51 @@
+use mathlib.Core.Path.{_∙_}
+use Rattle.bitmap_decoder.proofs.Pictures.{raw-rows}
+use borrow.Author.Needs.{needs}
+use Rattle.bitmap_decoder.proofs.decode_raw.Statement.{statement}
+use Rattle.bitmap_decoder.proofs.decode_raw.Tie as tie
+use Rattle.bitmap_decoder.proofs.decode_raw.Reads as reads
+use Rattle.bitmap_decoder.proofs.decode_raw.Lts as lts
+use Rattle.bitmap_decoder.proofs.alpha_size.Reads as alpha-size-reads
+use Rattle.bitmap_decoder.proofs.write_planes.Reads as write-planes-reads
+
+-- src/lib.rt:110:9
+alpha-size-requires : tie.Need-alpha-size-requires
+alpha-size-requires c κs = search needs
+
+-- src/lib.rt:111:26
+sub-write-planes : tie.Need-sub-write-planes
+sub-write-planes c = search needs
+
+-- src/lib.rt:111:26
+part-write-planes-start : tie.Need-part-write-planes-start
+part-write-planes-start c = search needs
+
+-- src/lib.rt:111:26
+part-write-planes-end : tie.Need-part-write-planes-end
+part-write-planes-end c = search needs
+
+-- src/lib.rt:111:5
+write-planes-requires : tie.Need-write-planes-requires
+write-planes-requires c κs = search needs
+
+-- src/lib.rt:100:1
+same-length : tie.Need-same-length
+same-length c = search needs
+
+-- src/lib.rt:100:1
+returns : tie.Need-returns
+returns c =
+    let a = c .before .before .before .before .before .before .before .before .args in
+    c .before .before .write-planes .ensures ∙ raw-rows (a .header) (a .width) (a .height) (c .before .before .before .before .before .alpha-size .result) (a .body .now) (a .image .now) (c .before .before .before .before .before .alpha-size .ensures)
+
+pub decode-raw-spec : {M : Type 1} → statement M
+decode-raw-spec =
+    tie.close
+    (tie.spec
+    alpha-size-requires
+    sub-write-planes
+    part-write-planes-start
+    part-write-planes-end
+    write-planes-requires
+    same-length
+    returns)

@@ -1,0 +1,168 @@
+use Prim.Native.Nat.{_+_, _*_}
+use mathlib.Core.Path.{refl}
+use mathlib.Core.List.{[], _∷_}
+use native.Mathlib.Omega.{arith}
+use lib.ListN.{length}
+use Rattle.rle_format.proofs.Plane.{area-most}
+use Rattle.bitmap_format.specs.Planes.{planeAt, colourPlanes}
+use Rattle.bitmap_format.proofs.UnpackPlanes.{PlanesHead, planes-first}
+use Rattle.bitmap_decoder.proofs.Images.{Areas, areas}
+use Rattle.bitmap_decoder.proofs.Chains.{onward, stopped, finished, colour-planes-are}
+use borrow.Author.Needs.{needs}
+use Rattle.bitmap_decoder.proofs.planes.decompress_colour_planes.Statement.{statement}
+use Rattle.bitmap_decoder.proofs.planes.decompress_colour_planes.Tie as tie
+use Rattle.bitmap_decoder.proofs.planes.decompress_colour_planes.Reads as reads
+use Rattle.bitmap_decoder.proofs.planes.decompress_colour_planes.Lts as lts
+use Rattle.bitmap_decoder.proofs.planes.decompress_next_plane.Reads as decompress-next-plane-reads
+use Rattle.bitmap_format.proofs.chroma_side.Reads as chroma-side-reads
+
+-- the sizes of the planes
+sizes : (c : tie.After-chroma-side2) → Areas (c .before .before .before .before .args .width) (c .before .before .before .before .args .height) (c .before .chroma-side .result) (c .chroma-side2 .result) (length (c .before .before .before .before .args .work .now))
+sizes c =
+    let s = (c .before .before .before .before) in
+    areas (s .args .subsampling) (s .args .width) (s .args .height) _ _ _ (s .pre .1) (s .pre .2) (c .before .chroma-side .ensures) (c .chroma-side2 .ensures) (s .pre .3)
+
+-- what is left before the first plane, and after each of the next two
+head1 : (c : tie.After-chroma-side2)
+    → PlanesHead (colourPlanes (c .before .before .before .before .args .subsampling) (c .before .before .before .before .args .width) (c .before .before .before .before .args .height))
+    (planeAt (c .before .before .before .before .args .width) (c .before .before .before .before .args .height) 0
+    ∷ planeAt (c .before .chroma-side .result) (c .chroma-side2 .result) (c .before .before .before .before .args .width * c .before .before .before .before .args .height)
+    ∷ planeAt (c .before .chroma-side .result) (c .chroma-side2 .result) (c .before .before .before .before .args .width * c .before .before .before .before .args .height + c .before .chroma-side .result * c .chroma-side2 .result)
+    ∷ [])
+    (c .before .before .before .before .args .body .now) (c .before .before .before .before .args .work .now) (c .before .before .before .before .args .work .now) (c .before .before .before .before .args .from) (c .before .before .before .before .args .from)
+head1 c =
+    let s = (c .before .before .before .before) in
+    planes-first _ _ _ _ _ (colour-planes-are (s .args .subsampling) (s .args .width) (s .args .height) _ _ (c .before .chroma-side .ensures) (c .chroma-side2 .ensures)) (s .pre .0)
+
+head2 : (c : tie.After-first)
+    → PlanesHead (colourPlanes (c .before .before .before .before .before .before .before .before .before .before .args .subsampling) (c .before .before .before .before .before .before .before .before .before .before .args .width) (c .before .before .before .before .before .before .before .before .before .before .args .height))
+    (planeAt (c .before .before .before .before .before .before .before .chroma-side .result) (c .before .before .before .before .before .before .chroma-side2 .result) (c .before .before .before .before .before .before .before .before .before .before .args .width * c .before .before .before .before .before .before .before .before .before .before .args .height)
+    ∷ planeAt (c .before .before .before .before .before .before .before .chroma-side .result) (c .before .before .before .before .before .before .chroma-side2 .result) (c .before .before .before .before .before .before .before .before .before .before .args .width * c .before .before .before .before .before .before .before .before .before .before .args .height + c .before .before .before .before .before .before .before .chroma-side .result * c .before .before .before .before .before .before .chroma-side2 .result)
+    ∷ [])
+    (c .before .before .before .before .before .before .before .before .before .before .args .body .now) (c .before .before .before .before .before .before .before .before .before .before .args .work .now) (c .before .before .before .before .decompress-next-plane .last .1 .1 .0) (c .before .before .before .before .before .before .before .before .before .before .args .from) (c .first .given .0 .0)
+head2 c =
+    let a = c .before .before .before .before .before .before .before .before .before .before .args in
+    let d = c .before .before .before .before .decompress-next-plane in
+    onward _ _ (planeAt (a .width) (a .height) 0) (a .body .now) (a .work .now) (a .work .now) (d .last .1 .1 .0) (a .from) (a .from) (d .result) (head1 ((c .before .before .before .before .before .before))) (d .ensures) (c .first .given .0 .0) (c .first .given .1) (d .kept .1 .1 .0)
+
+head3 : (c : tie.After-second)
+    → PlanesHead (colourPlanes (c .before .before .before .before .before .before .before .before .before .before .before .before .before .before .before .before .before .args .subsampling) (c .before .before .before .before .before .before .before .before .before .before .before .before .before .before .before .before .before .args .width) (c .before .before .before .before .before .before .before .before .before .before .before .before .before .before .before .before .before .args .height))
+    (planeAt (c .before .before .before .before .before .before .before .before .before .before .before .before .before .before .chroma-side .result) (c .before .before .before .before .before .before .before .before .before .before .before .before .before .chroma-side2 .result) (c .before .before .before .before .before .before .before .before .before .before .before .before .before .before .before .before .before .args .width * c .before .before .before .before .before .before .before .before .before .before .before .before .before .before .before .before .before .args .height + c .before .before .before .before .before .before .before .before .before .before .before .before .before .before .chroma-side .result * c .before .before .before .before .before .before .before .before .before .before .before .before .before .chroma-side2 .result) ∷ [])
+    (c .before .before .before .before .before .before .before .before .before .before .before .before .before .before .before .before .before .args .body .now) (c .before .before .before .before .before .before .before .before .before .before .before .before .before .before .before .before .before .args .work .now) (c .before .before .before .before .decompress-next-plane2 .last .1 .1 .0) (c .before .before .before .before .before .before .before .before .before .before .before .before .before .before .before .before .before .args .from) (c .second .given .0 .0)
+head3 c =
+    let a = c .before .before .before .before .before .before .before .before .before .before .before .before .before .before .before .before .before .args in
+    let d = c .before .before .before .before .decompress-next-plane2 in
+    onward _ _ (planeAt (c .before .before .before .before .before .before .before .before .before .before .before .before .before .before .chroma-side .result) (c .before .before .before .before .before .before .before .before .before .before .before .before .before .chroma-side2 .result) (a .width * a .height)) (a .body .now) (a .work .now) (c .before .before .before .before .before .before .before .before .before .before .before .decompress-next-plane .last .1 .1 .0) (d .last .1 .1 .0) (a .from) (c .before .before .before .before .before .before .before .first .given .0 .0) (d .result)
+    (head2 ((c .before .before .before .before .before .before .before))) (d .ensures) (c .second .given .0 .0) (c .second .given .1) (d .kept .1 .1 .0)
+
+-- src/planes.rt:66:16
+mul-full : tie.Need-mul-full
+mul-full c =
+    let s = (c .before .before) in
+    omega (arith, area-most (s .args .width) (s .args .height) (s .pre .1) (s .pre .2))
+
+-- src/planes.rt:67:9
+chroma-side-requires : tie.Need-chroma-side-requires
+chroma-side-requires c κs = search needs
+
+-- src/planes.rt:68:9
+chroma-side-requires-2 : tie.Need-chroma-side-requires-2
+chroma-side-requires-2 c κs = search needs
+
+-- src/planes.rt:69:9
+decompress-next-plane-requires : tie.Need-decompress-next-plane-requires
+decompress-next-plane-requires c κs = search needs
+
+-- src/planes.rt:70:24
+enum-known-first : tie.Need-enum-known-first
+enum-known-first c = search needs
+
+-- src/planes.rt:71:9
+enum-told : tie.Need-enum-told
+enum-told c = search needs
+
+-- src/planes.rt:71:9
+same-length : tie.Need-same-length
+same-length c = search needs
+
+-- src/planes.rt:71:9
+returns : tie.Need-returns
+returns c =
+    let a = c .before .before .before .before .before .before .before .before .before .before .args in
+    let d = c .before .before .before .before .decompress-next-plane in
+    stopped _ _ (planeAt (a .width) (a .height) 0) (a .body .now) (a .work .now) (a .work .now) (d .last .1 .1 .0) (a .from) (a .from) (d .result) (head1 ((c .before .before .before .before .before .before))) (d .ensures) (c .enum-told .given .0 .0) (c .enum-told .given .1)
+
+-- src/planes.rt:73:9
+decompress-next-plane-requires-2 : tie.Need-decompress-next-plane-requires-2
+decompress-next-plane-requires-2 c κs =
+    let h = head2 ((c .before .before)) in
+    (h .low, omega (arith, h .len, sizes ((c .before .before .before .before .before .before .before .before))))
+
+-- src/planes.rt:74:24
+enum-known-second : tie.Need-enum-known-second
+enum-known-second c = search needs
+
+-- src/planes.rt:75:9
+enum-told-2 : tie.Need-enum-told-2
+enum-told-2 c = search needs
+
+-- src/planes.rt:75:9
+same-length-2 : tie.Need-same-length-2
+same-length-2 c = search needs
+
+-- src/planes.rt:75:9
+returns-2 : tie.Need-returns-2
+returns-2 c =
+    let a = c .before .before .before .before .before .before .before .before .before .before .before .before .before .before .before .before .before .args in
+    let d = c .before .before .before .before .decompress-next-plane2 in
+    stopped _ _ (planeAt (c .before .before .before .before .before .before .before .before .before .before .before .before .before .before .chroma-side .result) (c .before .before .before .before .before .before .before .before .before .before .before .before .before .chroma-side2 .result) (a .width * a .height)) (a .body .now) (a .work .now) (c .before .before .before .before .before .before .before .before .before .before .before .decompress-next-plane .last .1 .1 .0) (d .last .1 .1 .0) (a .from) (c .before .before .before .before .before .before .before .first .given .0 .0) (d .result)
+    (head2 ((c .before .before .before .before .before .before .before))) (d .ensures) (c .enum-told2 .given .0 .0) (c .enum-told2 .given .1)
+
+-- src/planes.rt:77:25
+mul-offset : tie.Need-mul-offset
+mul-offset c = omega (arith, sizes ((c .before .before .before .before .before .before .before .before .before .before .before .before .before .before)))
+
+-- src/planes.rt:77:18
+add-offset : tie.Need-add-offset
+add-offset c = omega (arith, sizes ((c .before .before .before .before .before .before .before .before .before .before .before .before .before .before)))
+
+-- src/planes.rt:78:5
+decompress-next-plane-requires-3 : tie.Need-decompress-next-plane-requires-3
+decompress-next-plane-requires-3 c κs =
+    let h = head3 ((c .before .before)) in
+    (h .low, omega (arith, h .len, sizes ((c .before .before .before .before .before .before .before .before .before .before .before .before .before .before .before))))
+
+-- src/planes.rt:54:1
+same-length-3 : tie.Need-same-length-3
+same-length-3 c = search needs
+
+-- src/planes.rt:54:1
+returns-3 : tie.Need-returns-3
+returns-3 c =
+    let a = c .before .before .before .before .before .before .before .before .before .before .before .before .before .before .before .before .before .before .before .before .before .before .args in
+    let d = c .before .before .decompress-next-plane3 in
+    finished _ (planeAt (c .before .before .before .before .before .before .before .before .before .before .before .before .before .before .before .before .before .before .before .chroma-side .result) (c .before .before .before .before .before .before .before .before .before .before .before .before .before .before .before .before .before .before .chroma-side2 .result) (a .width * a .height + c .before .before .before .before .before .before .before .before .before .before .before .before .before .before .before .before .before .before .before .chroma-side .result * c .before .before .before .before .before .before .before .before .before .before .before .before .before .before .before .before .before .before .chroma-side2 .result)) (a .body .now) (a .work .now) (c .before .before .before .before .before .before .before .before .before .decompress-next-plane2 .last .1 .1 .0) (d .last .1 .1 .0)
+    (a .from) (c .before .before .before .before .before .second .given .0 .0) (d .result) (head3 ((c .before .before .before .before .before))) (d .ensures)
+
+pub decompress-colour-planes-spec : {M : Type 1} → statement M
+decompress-colour-planes-spec =
+    tie.close
+    (tie.spec
+    mul-full
+    chroma-side-requires
+    chroma-side-requires-2
+    decompress-next-plane-requires
+    enum-known-first
+    enum-told
+    same-length
+    returns
+    decompress-next-plane-requires-2
+    enum-known-second
+    enum-told-2
+    same-length-2
+    returns-2
+    mul-offset
+    add-offset
+    decompress-next-plane-requires-3
+    same-length-3
+    returns-3)

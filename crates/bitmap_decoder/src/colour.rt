@@ -1,0 +1,66 @@
+// The colour of an AYCoCg pixel (MS-RDPEGDI 3.1.9.1.2).
+ghost use mathlib.Core.Path.{_≡_};
+ghost use Prim.Native.Nat.{_≤_};
+ghost use Rattle.bitmap_format.specs.Colour.{chroma, clip, ycocg, aycocgColour};
+use bitmap_format::Rgb;
+
+// What the colours of a picture depend on, beside its samples.
+pub(crate) struct AYCoCgParams {
+    pub color_loss_level: u8,
+    pub chroma_subsampling: bool,
+    pub alpha: bool,
+}
+
+// A chroma byte at a loss level. The multiplication is that of a byte, so that its upper bits are lost before the sign is looked at.
+fn chroma_value(cll: u8, byte: u8) -> i16
+    requires { ⌜ (1 ≤ cll) × (cll ≤ 7) ⌝ }
+    ensures { λ r. ⌜ r ≡ chroma cll byte ⌝ }
+{
+    let scaled = byte << (cll - 1);
+    if scaled < 128 {
+        return scaled as i16;
+    }
+    scaled as i16 - 256
+}
+
+fn clip_i16(v: i16) -> u8
+    ensures { λ r. ⌜ r ≡ clip v ⌝ }
+{
+    if v < 0 {
+        return 0;
+    }
+    if 255 < v {
+        return 255;
+    }
+    v as u8
+}
+
+// The colour as the planes have it.
+fn ycocg_with_cll_to_rgb(cll: u8, y: u8, co: u8, cg: u8) -> Rgb
+    requires { ⌜ (1 ≤ cll) × (cll ≤ 7) ⌝ }
+    ensures { λ r. ⌜ r ≡ ycocg cll y co cg ⌝ }
+{
+    let co = chroma_value(cll, co);
+    let cg = chroma_value(cll, cg);
+    let t = y as i16 - cg;
+    let r = clip_i16(t + co);
+    let g = clip_i16(y as i16 + cg);
+    let b = clip_i16(t - co);
+    Rgb { r, g, b }
+}
+
+// The colour as it is shown: without alpha the planes have red and blue exchanged.
+pub(crate) fn aycocg_color(params: AYCoCgParams, y: u8, co: u8, cg: u8) -> Rgb
+    requires { ⌜ (1 ≤ params .«color_loss_level») × (params .«color_loss_level» ≤ 7) ⌝ }
+    ensures { λ r. ⌜ r ≡ aycocgColour (params .alpha) (params .«color_loss_level») y co cg ⌝ }
+{
+    let color = ycocg_with_cll_to_rgb(params.color_loss_level, y, co, cg);
+    if params.alpha {
+        return color;
+    }
+    Rgb {
+        r: color.b,
+        g: color.g,
+        b: color.r,
+    }
+}

@@ -1,0 +1,29 @@
+use Prim.Native.Nat.{ℕ}
+use mathlib.Core.Path.{ap, _∙_}
+use Rattle.rle_format.specs.Sides.{withinSides}
+use Rattle.bitmap_format.specs.declared.BitmapStreamHeader.{BitmapStreamHeader}
+use Rattle.bitmap_format.specs.Sizes.{workSize}
+use borrow.Author.Needs.{needs}
+use Rattle.rdp6.proofs.rdp6_work_size.Statement.{statement}
+use Rattle.rdp6.proofs.rdp6_work_size.Tie as tie
+use Rattle.rdp6.proofs.rdp6_work_size.Reads as reads
+use Rattle.rdp6.proofs.rdp6_work_size.Lts as lts
+use Rattle.bitmap_format.proofs.work_size.Reads as work-size-reads
+use Rattle.rdp6.proofs.header_of.Reads as header-of-reads
+
+-- src/lib.rt:150:9
+header-of-requires : tie.Need-header-of-requires
+header-of-requires c κs = search needs
+
+-- src/lib.rt:151:5
+work-size-requires : tie.Need-work-size-requires
+work-size-requires c κs = search needs
+
+-- src/lib.rt:140:1
+returns : tie.Need-returns
+returns c =
+    let a = c .before .before .args in
+    c .work-size .ensures ∙ ap (λ (k : BitmapStreamHeader). withinSides (λ (_ : ℕ). 0) (a .width) (a .height) (workSize k (a .width) (a .height))) (c .before .header-of .ensures)
+
+pub rdp6-work-size-spec : {M : Type 1} → statement M
+rdp6-work-size-spec = tie.close (tie.spec header-of-requires work-size-requires returns)

@@ -1,0 +1,19 @@
+-- The header record that C's flags and numbers stand for.
+use Prim.Native.Nat.{ℕ}
+use mathlib.Core.Bool.{Bool}
+use lib.Dec.{eqb}
+use Rattle.rle_format.specs.Choice.{choose}
+use Rattle.bitmap_format.specs.declared.BitmapStreamHeader.{BitmapStreamHeader}
+use Rattle.bitmap_format.specs.declared.ColorPlaneDefinition.{ColorPlaneDefinition}
+use Rattle.bitmap_format.specs.declared.ColorPlaneDefinition.the-variants.{Argb, AYCoCg}
+
+-- 0 is ARGB, 1 is AYCoCg; any other number is AYCoCg with level 0, which is refused
+unfoldable pub cDefinition : (definition level : ℕ) (subsampling : Bool) → ColorPlaneDefinition
+cDefinition definition level s = choose (eqb definition 0) Argb (AYCoCg (choose (eqb definition 1) level 0) s)
+
+abbrev pub cHeader : (rle alpha : Bool) (definition level : ℕ) (subsampling : Bool) → BitmapStreamHeader
+cHeader rle alpha definition level s = record {
+  «enable_rle_compression» = rle;
+  «use_alpha» = alpha;
+  «color_plane_definition» = cDefinition definition level s;
+}
