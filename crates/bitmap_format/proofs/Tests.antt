@@ -19,7 +19,7 @@ not-counted e = let z : _≡_ {A = ℕ} 0 1 = cc in absurd (omega arith)
 module _ (t : Test) (tests : List Test) (passed : Answer) where
   pub refuses : t .given ≡ true → downwards (t ∷ tests) passed ≡ refused (t .number)
   unfolding downwards
-  refuses e = rw e
+  refuses e = ap (λ (given : Bool). choose given (refused (t .number)) (downwards tests passed)) e
 
   pub passes : t .given ≡ false → downwards (t ∷ tests) passed ≡ downwards tests passed
   unfolding downwards
