@@ -8,7 +8,7 @@ use lib.ListN.{length, drop, length-take, length-drop}
 use Rattle.rle_format.specs.declared.Refusal.{Refusal}
 use Rattle.rle_format.specs.declared.Unpacked.{Unpacked}
 use Rattle.rle_format.specs.declared.Unpacked.the-variants.{Read, Refused}
-use Rattle.rle_format.specs.Answer.{Answer, counted, refused, Outcome, more, number, told}
+use Rattle.rle_format.specs.Answer.{refused, Outcome, more, number, told}
 use Rattle.rle_format.specs.Slice.{over, putAt}
 use Rattle.rle_format.specs.Unpack.{unpackPlane}
 use Rattle.rle_format.proofs.Slice.{tail, put-back, tail-is, lent-over}

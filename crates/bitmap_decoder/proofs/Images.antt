@@ -6,12 +6,11 @@ use mathlib.Core.List.{List}
 use native.Mathlib.Nat.{suc-mul, mul-le-mul-right, mul-comm, zero-add}
 use native.Mathlib.Numerals.{add-one}
 use native.Mathlib.Omega.{arith}
-use lib.ListN.{length, getD, length-take, length-drop}
+use lib.ListN.{length, getD}
 use lib.Seq.{getD-drop}
 use Rattle.rle_format.specs.Slice.{over, putAt}
 use Rattle.rle_format.proofs.Slice.{tail, put-back, tail-is, length-put-back, lent-over}
 use Rattle.rle_format.proofs.Plane.{area-most}
-use Rattle.bitmap_format.specs.declared.ColorPlaneDefinition.{ColorPlaneDefinition}
 use Rattle.bitmap_format.specs.declared.ColorPlaneDefinition.the-variants.{Argb, AYCoCg}
 use Rattle.bitmap_format.specs.Colour.{rgb, aycocgColour, rgb24}
 use Rattle.bitmap_format.specs.Planes.{PlaneAt, chromaSide, firstPlane, secondPlane, thirdPlane, colourPlanes}
@@ -103,10 +102,6 @@ module _ (s : Bool) (width height cw ch len : ℕ) (lw : width ≤ 8192) (lh : h
 pub argb-rooms : (width height row len : ℕ) → width ≤ 8192 → height ≤ 8192 → row < height → total samples (colourPlanes false width height) ≤ len → Rooms width height row width height row len
 unfolding chromaSide chromaPlace
 argb-rooms width height row len lw lh lr l = rooms false width height width height len lw lh refl refl l row row lr refl
-
--- a part that is lent from a on has so many bytes
-pub tail-room : (l : List ℕ) (a n : ℕ) → a + n ≤ length l → n ≤ length (tail l a)
-tail-room l a n h = simp (length-take, length-drop) (omega arith)
 
 -- a row of the image has room
 pub image-room : (row width height len : ℕ) → row < height → imageSize width height ≤ len → row * (3 * width) + 3 * width ≤ len

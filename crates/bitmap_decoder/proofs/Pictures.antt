@@ -1,14 +1,14 @@
 -- The outcomes of a picture.
-use Prim.Native.Nat.{ℕ, _+_, _*_, _≤_}
+use Prim.Native.Nat.{ℕ, _*_, _≤_}
 use mathlib.Core.Bool.{Bool, true, false}
 use mathlib.Core.Path.{_≡_, refl, sym, ap, _∙_}
 use mathlib.Core.List.{List}
 use native.Mathlib.Nat.{add-zero}
-use lib.ListN.{length, drop}
+use lib.ListN.{drop}
 use Rattle.rle_format.specs.declared.Refusal.{Refusal}
 use Rattle.rle_format.specs.declared.Unpacked.{Unpacked}
 use Rattle.rle_format.specs.declared.Unpacked.the-variants.{Read, Refused}
-use Rattle.rle_format.specs.Answer.{Answer, counted, refused, number, told}
+use Rattle.rle_format.specs.Answer.{Answer, counted, number, told}
 use Rattle.rle_format.proofs.Slice.{tail, tail-is}
 use Rattle.bitmap_format.specs.declared.BitmapStreamHeader.{BitmapStreamHeader}
 use Rattle.bitmap_format.specs.declared.ColorPlaneDefinition.{ColorPlaneDefinition}

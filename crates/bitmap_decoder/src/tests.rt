@@ -66,18 +66,21 @@ fn test_slices(
     ensures { λ r. ⌜ toldDecoded r ≡ downwards (pictureTests header width height body work image) (counted (imageSize width height)) ⌝ }
 {
     let definition = header.color_plane_definition;
-    if is_loss_wrong(definition) {
+    let loss_is_wrong = is_loss_wrong(definition);
+    let least_body = min_body_size(header, width, height);
+    let least_work = work_size(header, width, height);
+    let least_image = image_size(width, height);
+    if loss_is_wrong {
         return Decoded::Refused(Refusal::LossLevel);
     }
-    if body < min_body_size(header, width, height) {
+    if body < least_body {
         return Decoded::Refused(Refusal::InvalidUncompressedDataSize);
     }
-    if work < work_size(header, width, height) {
+    if work < least_work {
         return Decoded::Refused(Refusal::ShortWork);
     }
-    let size = image_size(width, height);
-    if image < size {
+    if image < least_image {
         return Decoded::Refused(Refusal::ShortImage);
     }
-    Decoded::Written(size)
+    Decoded::Written(least_image)
 }

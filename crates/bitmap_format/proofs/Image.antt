@@ -1,12 +1,11 @@
 -- The image of a picture: its pixels one after the other, and its rows one after the other.
-use Prim.Native.Nat.{ℕ, zero, suc, _+_, _*_, _≤_, _<_}
-use mathlib.Core.Path.{_≡_, refl, sym, ap, _∙_}
-use mathlib.Core.List.{List, _++_}
+use Prim.Native.Nat.{ℕ, zero, suc, _+_, _*_}
+use mathlib.Core.Path.{_≡_, sym, ap, _∙_}
+use mathlib.Core.List.{List}
 use native.Mathlib.Nat.{zero-mul, suc-mul}
-use native.Mathlib.Omega.{arith}
 use lib.ListN.{length, length-append}
 use Rattle.rle_format.specs.Slice.{over, putAt}
-use Rattle.rle_format.proofs.Slice.{over-none, over-more, length-putAt}
+use Rattle.rle_format.proofs.Slice.{over-none, over-more}
 use Rattle.bitmap_format.specs.Image.{each, placed}
 
 pub length-each : (n k : ℕ) (f : ℕ → List ℕ) → ((i : ℕ) → length (f i) ≡ k) → length (each n f) ≡ n * k

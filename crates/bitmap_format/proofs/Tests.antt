@@ -1,7 +1,7 @@
 -- The tests before a picture, one after the other, and what they leave.
-use Prim.Native.Nat.{ℕ, _≤_, _<_}
+use Prim.Native.Nat.{ℕ, _≤_}
 use mathlib.Core.Bool.{Bool, true, false, _||_}
-use mathlib.Core.Path.{_≡_, refl, sym, ap, _∙_}
+use mathlib.Core.Path.{_≡_, refl}
 use mathlib.Core.List.{List, [], _∷_}
 use native.Mathlib.Omega.{arith}
 use lib.Dec.{ltb, eqb}
@@ -9,7 +9,7 @@ use borrow.Author.Tests.{ltb-false, eqb-false}
 use Rattle.rle_format.specs.Choice.{choose}
 use Rattle.rle_format.specs.Sides.{withinSides}
 use Rattle.rle_format.specs.Answer.{Answer, counted, refused}
-use Rattle.bitmap_format.specs.Tests.{Test, test, downwards}
+use Rattle.bitmap_format.specs.Tests.{Test, downwards}
 
 not-counted : {r n : ℕ} {X : Type 0} → refused r ≡ counted n → X
 not-counted e = let z : _≡_ {A = ℕ} 0 1 = cc in absurd (omega arith)

@@ -1,5 +1,5 @@
 -- Planes unpacked one after the other.
-use Prim.Native.Nat.{ℕ, _+_, _-_, _*_, _≤_}
+use Prim.Native.Nat.{ℕ, _+_, _-_, _≤_}
 use mathlib.Core.Path.{_≡_, refl, sym, ap, _∙_}
 use mathlib.Core.List.{List, [], _∷_, _++_}
 use native.Mathlib.Nat.{add-zero, zero-add, add-assoc}
@@ -8,7 +8,7 @@ use lib.ListN.{length, drop, length-drop}
 use lib.Seq.{drop-drop}
 use Rattle.rle_format.specs.Answer.{Answer, counted, refused, more}
 use Rattle.rle_format.specs.Slice.{putAt}
-use Rattle.rle_format.proofs.Plane.{PlaneBounded, plane-bounded}
+use Rattle.rle_format.proofs.Plane.{plane-bounded}
 use Rattle.bitmap_format.specs.Planes.{PlaneAt}
 use Rattle.bitmap_format.specs.UnpackPlanes.{Worked, ahead, planeInto, unpackPlanes}
 

@@ -19,10 +19,6 @@ use Rattle.rle_format.proofs.Row.{rowFrom}
 use Rattle.rle_decoder.specs.Rows.{codedRow, rowsBelow}
 use Rattle.rle_format.proofs.Plane.{RowFull, row-full, row-stopped, rows-none}
 
--- a part from a on has room for two rows
-pub tail-room : (d : List ℕ) (a w : ℕ) → a + w + w ≤ length d → w + w ≤ length (tail d a)
-tail-room d a w h = simp (length-take, length-drop) (omega arith)
-
 -- the loop at its head: d₀ is the slice as it came and d as it is now, `above` the place of the last row that is finished, `left`
 -- the rows still to read
 pub record RowsHead (src d₀ d : List ℕ) (w n from at above left : ℕ) : Type 0 where

@@ -117,6 +117,9 @@ put-back-is d ys a =
     let none : drop (length d - a) (drop a d) ≡ [] = drop-of-length-le (drop a d) short in
     ap (λ (l : List ℕ). take a d ++ (ys ++ l)) none ∙ ap (λ (l : List ℕ). take a d ++ l) (append-nil ys)
 
+pub tail-room : (d : List ℕ) (a n : ℕ) → a + n ≤ length d → n ≤ length (tail d a)
+tail-room d a n h = simp (length-take, length-drop) (omega arith)
+
 -- d is as long as before, if the part came back as long as it was lent
 pub length-put-back : (d ys : List ℕ) (a : ℕ) → length ys ≡ length (tail d a) → length (put-back d a ys) ≡ length d
 length-put-back d ys a e =

@@ -1,59 +1,48 @@
+-- `decode`: the tests' answer decides (bitmap_format's Picture.antt); where it is no refusal, the RLE or the raw picture. Assumes
+-- nothing.
 use Rattle.rle_format.specs.Answer.{number}
 use mathlib.Core.Path.{refl, sym, ap, _∙_}
 use lib.ListN.{length}
-use Rattle.bitmap_format.specs.Picture.{refusal, toldDecoded}
-use Rattle.bitmap_format.proofs.Picture.{rle-room, raw-room}
+use Rattle.bitmap_format.specs.Picture.{toldDecoded}
+use Rattle.bitmap_format.proofs.Picture.{rle-room, raw-room, picture-refused, picture-rle, picture-raw}
 use Rattle.bitmap_format.proofs.Tested.{Passed, passed}
-use Rattle.bitmap_format.proofs.Picture.{picture-refused, picture-rle, picture-raw}
 use Rattle.bitmap_decoder.proofs.Pictures.{same-left, raw-painted}
 use borrow.Author.Needs.{needs}
 use Rattle.bitmap_decoder.proofs.decode.Statement.{statement}
 use Rattle.bitmap_decoder.proofs.decode.Tie as tie
-use Rattle.bitmap_decoder.proofs.decode.Reads as reads
-use Rattle.bitmap_decoder.proofs.decode.Lts as lts
-use Rattle.bitmap_decoder.proofs.decode_raw.Reads as decode-raw-reads
-use Rattle.bitmap_decoder.proofs.decode_rle.Reads as decode-rle-reads
-use Rattle.bitmap_decoder.proofs.tests.first_refusal.Reads as first-refusal-reads
 
 -- the tests were passed: what is known then
 known : (k : tie.After-enum-told)
     → Passed (k .before .before .before .before .before .before .args .header) (k .before .before .before .before .before .before .args .width) (k .before .before .before .before .before .before .args .height) (length (k .before .before .before .before .before .before .args .body .now)) (length (k .before .before .before .before .before .before .args .work .now)) (length (k .before .before .before .before .before .before .args .image .now)) (k .enum-told .given .0 .0)
 known k = passed _ _ _ _ _ _ _ (sym (k .before .before .first-refusal .ensures) ∙ ap toldDecoded (k .enum-told .given .1))
 
--- src/lib.rt:129:9
 first-refusal-requires : tie.Need-first-refusal-requires
 first-refusal-requires c κs = search needs
 
 enum-told : tie.Need-enum-told
 enum-told c = search needs
 
--- src/lib.rt:138:9
 enum-told-2 : tie.Need-enum-told-2
 enum-told-2 c = search needs
 
--- src/lib.rt:138:9
 returns : tie.Need-returns
 returns c =
     let a = c .before .before .before .before .before .before .args in
     let q = c .enum-told2 .given in
     same-left _ _ _ _ (c .before .before .first-refusal .result) (picture-refused (a .header) (a .width) (a .height) (a .body .now) (a .work .now) (a .image .now) (number (q .0 .0)) (sym (c .before .before .first-refusal .ensures) ∙ ap toldDecoded (q .1))) (ap toldDecoded (q .1), (refl, refl))
 
--- src/lib.rt:141:9
 decode-rle-requires : tie.Need-decode-rle-requires
 decode-rle-requires c κs =
     let k = known ((c .before .before .before)) in
     let a = c .before .before .before .before .before .before .before .before .before .args in
     (k .loss, k .width-most, k .height-most, rle-room (a .header) (a .width) (a .height) _ (c .before .before .if1 .taken) (k .work-least), k .image-least)
 
--- src/lib.rt:141:9
 same-length : tie.Need-same-length
 same-length c = search needs
 
--- src/lib.rt:141:9
 same-length-2 : tie.Need-same-length-2
 same-length-2 c = search needs
 
--- src/lib.rt:141:9
 returns-2 : tie.Need-returns-2
 returns-2 c =
     let a = c .before .before .before .before .before .before .before .before .before .before .before .before .before .before .args in
@@ -61,18 +50,15 @@ returns-2 c =
     let q = c .before .before .before .before .before .before .before .before .enum-told .given in
     same-left _ _ _ _ (d .result) (picture-rle (a .header) (a .width) (a .height) (a .body .now) (a .work .now) (a .image .now) (q .0 .0) (sym (c .before .before .before .before .before .before .before .before .before .before .first-refusal .ensures) ∙ ap toldDecoded (q .1)) (c .before .before .before .before .before .before .before .if1 .taken)) (d .ensures)
 
--- src/lib.rt:143:5
 decode-raw-requires : tie.Need-decode-raw-requires
 decode-raw-requires c κs =
     let k = known ((c .before .before)) in
     let a = c .before .before .before .before .before .before .before .before .args in
     (k .loss, k .width-most, k .height-most, raw-room (a .header) (a .width) (a .height) _ (c .before .if1 .left) (k .body-least), k .image-least)
 
--- src/lib.rt:117:1
 same-length-3 : tie.Need-same-length-3
 same-length-3 c = search needs
 
--- src/lib.rt:117:1
 returns-3 : tie.Need-returns-3
 returns-3 c =
     let a = c .before .before .before .before .before .before .before .before .before .before .before .args in

@@ -1,38 +1,28 @@
+-- `decode_raw`: the planes stand in the body behind alpha. Assumes nothing.
 use mathlib.Core.Path.{_∙_}
 use Rattle.bitmap_decoder.proofs.Pictures.{raw-rows}
 use borrow.Author.Needs.{needs}
 use Rattle.bitmap_decoder.proofs.decode_raw.Statement.{statement}
 use Rattle.bitmap_decoder.proofs.decode_raw.Tie as tie
-use Rattle.bitmap_decoder.proofs.decode_raw.Reads as reads
-use Rattle.bitmap_decoder.proofs.decode_raw.Lts as lts
-use Rattle.bitmap_decoder.proofs.alpha_size.Reads as alpha-size-reads
-use Rattle.bitmap_decoder.proofs.write_planes.Reads as write-planes-reads
 
--- src/lib.rt:110:9
 alpha-size-requires : tie.Need-alpha-size-requires
 alpha-size-requires c κs = search needs
 
--- src/lib.rt:111:26
 sub-write-planes : tie.Need-sub-write-planes
 sub-write-planes c = search needs
 
--- src/lib.rt:111:26
 part-write-planes-start : tie.Need-part-write-planes-start
 part-write-planes-start c = search needs
 
--- src/lib.rt:111:26
 part-write-planes-end : tie.Need-part-write-planes-end
 part-write-planes-end c = search needs
 
--- src/lib.rt:111:5
 write-planes-requires : tie.Need-write-planes-requires
 write-planes-requires c κs = search needs
 
--- src/lib.rt:100:1
 same-length : tie.Need-same-length
 same-length c = search needs
 
--- src/lib.rt:100:1
 returns : tie.Need-returns
 returns c =
     let a = c .before .before .before .before .before .before .before .before .args in

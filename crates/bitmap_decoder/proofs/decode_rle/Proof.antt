@@ -1,79 +1,60 @@
+-- `decode_rle`: a refused plane leaves the image; planes that are read are shown. Assumes nothing.
 use Rattle.bitmap_format.specs.Sizes.{imageSize}
 use Rattle.bitmap_format.proofs.Sizes.{size-most}
 use native.Mathlib.Omega.{arith}
-use Rattle.rle_format.proofs.Plane.{area-most}
 use Rattle.bitmap_decoder.proofs.Pictures.{rle-refused, rle-painted}
 use borrow.Author.Needs.{needs}
 use Rattle.bitmap_decoder.proofs.decode_rle.Statement.{statement}
 use Rattle.bitmap_decoder.proofs.decode_rle.Tie as tie
-use Rattle.bitmap_decoder.proofs.decode_rle.Reads as reads
-use Rattle.bitmap_decoder.proofs.decode_rle.Lts as lts
-use Rattle.bitmap_decoder.proofs.planes.decompress_planes.Reads as decompress-planes-reads
-use Rattle.bitmap_decoder.proofs.refused_by.Reads as refused-by-reads
-use Rattle.bitmap_decoder.proofs.write_planes.Reads as write-planes-reads
 
--- src/lib.rt:80:9
 decompress-planes-requires : tie.Need-decompress-planes-requires
 decompress-planes-requires c κs = search needs
 
 enum-told : tie.Need-enum-told
 enum-told c = search needs
 
--- src/lib.rt:82:9
 enum-told-2 : tie.Need-enum-told-2
 enum-told-2 c = search needs
 
--- src/lib.rt:82:9
 refused-by-requires : tie.Need-refused-by-requires
 refused-by-requires c κs = search needs
 
--- src/lib.rt:82:9
 same-length : tie.Need-same-length
 same-length c = search needs
 
--- src/lib.rt:82:9
 returns : tie.Need-returns
 returns c =
     let d = c .before .before .before .before .before .decompress-planes in
     let a = c .before .before .before .before .before .before .before .before .before .before .args in
     rle-refused (a .header) (a .width) (a .height) (a .body .now) (a .work .now) (d .last .1 .1 .0) (a .image .now) (d .result) (d .ensures) (c .before .enum-told2 .given .0 .0) (c .before .enum-told2 .given .1) (c .refused-by .result) (c .refused-by .ensures)
 
--- src/lib.rt:84:26
 sub-write-planes : tie.Need-sub-write-planes
 sub-write-planes c = search needs
 
--- src/lib.rt:84:26
 part-write-planes-start : tie.Need-part-write-planes-start
 part-write-planes-start c = search needs
 
--- src/lib.rt:84:26
 part-write-planes-end : tie.Need-part-write-planes-end
 part-write-planes-end c = search needs
 
--- src/lib.rt:84:5
 write-planes-requires : tie.Need-write-planes-requires
 write-planes-requires c κs = search needs
 
--- src/lib.rt:85:22
 mul-t12 : tie.Need-mul-t12
 mul-t12 c = search needs
 
--- src/lib.rt:85:22
 mul-t17 : tie.Need-mul-t17
 unfolding imageSize
 mul-t17 c =
     let s = (c .before .before .before .before .before .before .before .before .before .before .before .before .before .before .before) in
     omega (arith, size-most (s .args .width) (s .args .height) (s .pre .1) (s .pre .2))
 
--- src/lib.rt:67:1
 same-length-2 : tie.Need-same-length-2
 same-length-2 c = search needs
 
--- src/lib.rt:67:1
 same-length-3 : tie.Need-same-length-3
 same-length-3 c = search needs
 
--- src/lib.rt:67:1
 returns-2 : tie.Need-returns-2
 returns-2 c =
     let d = c .before .before .before .before .before .before .before .before .before .before .decompress-planes in

@@ -1,10 +1,9 @@
+-- `has_subsampled_chroma`: definition by definition. Assumes nothing.
 use mathlib.Core.Path.{sym, ap}
 use Rattle.bitmap_format.specs.Planes.{subsampled}
 use borrow.Author.Needs.{needs}
 use Rattle.bitmap_format.proofs.has_subsampled_chroma.Statement.{statement}
 use Rattle.bitmap_format.proofs.has_subsampled_chroma.Tie as tie
-
--- `has_subsampled_chroma`: definition by definition. Assumes nothing.
 
 enum-told : tie.Need-enum-told
 enum-told c = search needs

@@ -1,3 +1,4 @@
+-- `decoded_number`: a count as it is, a refusal below 0. Assumes nothing.
 use mathlib.Core.Path.{sym, ap, _∙_}
 use mir.Facts.{toZ-ofZ, toZ-pos}
 use mir.Val.{SFits}
@@ -12,31 +13,22 @@ use Rattle.rdp6.proofs.Numbers.{count-fits, refusal-fits}
 use borrow.Author.Needs.{needs}
 use Rattle.rdp6.proofs.decoded_number.Statement.{statement}
 use Rattle.rdp6.proofs.decoded_number.Tie as tie
-use Rattle.rdp6.proofs.decoded_number.Reads as reads
-use Rattle.rdp6.proofs.decoded_number.Lts as lts
-use Rattle.rdp6.proofs.refusal_number.Reads as refusal-number-reads
 
--- src/lib.rt:58:26
 enum-known-answer : tie.Need-enum-known-answer
 enum-known-answer c = search needs
 
--- src/lib.rt:58:38
 cast-result : tie.Need-cast-result
 cast-result c = count-fits _ (c .before .before .before .pre _ (c .before .answer .given .1))
 
--- src/lib.rt:59:26
 enum-known-answer-2 : tie.Need-enum-known-answer-2
 enum-known-answer-2 c = search needs
 
--- src/lib.rt:59:37
 refusal-number-requires : tie.Need-refusal-number-requires
 refusal-number-requires c κs = search needs
 
--- src/lib.rt:53:1
 returns : tie.Need-returns
 returns c = toZ-pos w64 (omega (arith, c .before .before .before .pre _ (c .before .answer .given .1))) ∙ sym (ap (λ (a : Decoded). cNumber (toldDecoded a)) (c .before .answer .given .1))
 
--- src/lib.rt:53:1
 returns-2 : tie.Need-returns-2
 returns-2 c =
     let r = c .before .before .answer2 .given .0 .0 in

@@ -1,21 +1,17 @@
+-- `definition_of`: each return is a case of `cDefinition`. Assumes nothing.
 use borrow.Author.Tests.{eq-eqb, ne-eqb}
 use Rattle.rdp6.specs.Header.{cDefinition}
 use Rattle.rdp6.proofs.definition_of.Statement.{statement}
 use Rattle.rdp6.proofs.definition_of.Tie as tie
-use Rattle.rdp6.proofs.definition_of.Reads as reads
-use Rattle.rdp6.proofs.definition_of.Lts as lts
 
--- src/lib.rt:68:9
 returns : tie.Need-returns
 unfolding cDefinition
 returns c = simp (eq-eqb _ _ (c .if1 .taken))
 
--- src/lib.rt:71:9
 returns-2 : tie.Need-returns-2
 unfolding cDefinition
 returns-2 c = simp (ne-eqb _ _ (c .before .if1 .left), eq-eqb _ _ (c .if2 .taken))
 
--- src/lib.rt:64:1
 returns-3 : tie.Need-returns-3
 unfolding cDefinition
 returns-3 c = simp (ne-eqb _ _ (c .before .if1 .left), ne-eqb _ _ (c .if2 .left))

@@ -1,18 +1,13 @@
+-- `header_of`: the record of what it is given. Assumes nothing.
 use mathlib.Core.Path.{ap}
-use Rattle.bitmap_format.specs.declared.BitmapStreamHeader.{BitmapStreamHeader}
 use Rattle.bitmap_format.specs.declared.ColorPlaneDefinition.{ColorPlaneDefinition}
 use borrow.Author.Needs.{needs}
 use Rattle.rdp6.proofs.header_of.Statement.{statement}
 use Rattle.rdp6.proofs.header_of.Tie as tie
-use Rattle.rdp6.proofs.header_of.Reads as reads
-use Rattle.rdp6.proofs.header_of.Lts as lts
-use Rattle.rdp6.proofs.definition_of.Reads as definition-of-reads
 
--- src/lib.rt:89:33
 definition-of-requires : tie.Need-definition-of-requires
 definition-of-requires c κs = search needs
 
--- src/lib.rt:83:1
 returns : tie.Need-returns
 returns c =
     let a = c .before .args in

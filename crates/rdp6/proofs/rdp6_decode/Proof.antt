@@ -1,3 +1,4 @@
+-- `rdp6_decode`: what the entry ensures, its answer as a number. Assumes nothing.
 use mathlib.Core.Path.{_≡_, sym, ap, _∙_}
 use Prim.Native.Nat.{ℕ, _≤_}
 use mir.Facts.{toZ-ofZ}
@@ -12,11 +13,6 @@ use Rattle.rdp6.proofs.Numbers.{decoded-fits}
 use borrow.Author.Needs.{needs}
 use Rattle.rdp6.proofs.rdp6_decode.Statement.{statement}
 use Rattle.rdp6.proofs.rdp6_decode.Tie as tie
-use Rattle.rdp6.proofs.rdp6_decode.Reads as reads
-use Rattle.rdp6.proofs.rdp6_decode.Lts as lts
-use Rattle.bitmap_decoder.proofs.decode.Reads as decode-reads
-use Rattle.rdp6.proofs.decoded_number.Reads as decoded-number-reads
-use Rattle.rdp6.proofs.header_of.Reads as header-of-reads
 
 -- a picture that was written has few bytes
 few : (c : tie.After-decode) (n : ℕ) → c .decode .result ≡ Written n → n ≤ 201326592
@@ -24,27 +20,21 @@ few c n e =
     let a = c .before .before .before .before .before .before .before .args in
     written-few (c .before .before .before .header-of .result) (a .width) (a .height) (a .body .now) (a .work .now) (a .image .now) n (sym (c .decode .ensures .0) ∙ ap toldDecoded e)
 
--- src/lib.rt:136:9
 header-of-requires : tie.Need-header-of-requires
 header-of-requires c κs = search needs
 
--- src/lib.rt:137:20
 decode-requires : tie.Need-decode-requires
 decode-requires c κs = search needs
 
--- src/lib.rt:137:5
 decoded-number-requires : tie.Need-decoded-number-requires
 decoded-number-requires c κs = few ((c .before .before .before .before))
 
--- src/lib.rt:119:1
 same-length : tie.Need-same-length
 same-length c = search needs
 
--- src/lib.rt:119:1
 same-length-2 : tie.Need-same-length-2
 same-length-2 c = search needs
 
--- src/lib.rt:119:1
 returns : tie.Need-returns
 returns c =
     let d = (c .before .before .before .before .before) in

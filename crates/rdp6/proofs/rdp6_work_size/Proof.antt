@@ -1,3 +1,4 @@
+-- `rdp6_work_size`: what the entry ensures, of the record that C's numbers stand for. Assumes nothing.
 use Prim.Native.Nat.{ℕ}
 use mathlib.Core.Path.{ap, _∙_}
 use Rattle.rle_format.specs.Sides.{withinSides}
@@ -6,20 +7,13 @@ use Rattle.bitmap_format.specs.Sizes.{workSize}
 use borrow.Author.Needs.{needs}
 use Rattle.rdp6.proofs.rdp6_work_size.Statement.{statement}
 use Rattle.rdp6.proofs.rdp6_work_size.Tie as tie
-use Rattle.rdp6.proofs.rdp6_work_size.Reads as reads
-use Rattle.rdp6.proofs.rdp6_work_size.Lts as lts
-use Rattle.bitmap_format.proofs.work_size.Reads as work-size-reads
-use Rattle.rdp6.proofs.header_of.Reads as header-of-reads
 
--- src/lib.rt:150:9
 header-of-requires : tie.Need-header-of-requires
 header-of-requires c κs = search needs
 
--- src/lib.rt:151:5
 work-size-requires : tie.Need-work-size-requires
 work-size-requires c κs = search needs
 
--- src/lib.rt:140:1
 returns : tie.Need-returns
 returns c =
     let a = c .before .before .args in

@@ -1,12 +1,12 @@
 -- `decode_rows_below`: a turn of its loop is a row; the invariant is `RowsHead` of Rows.antt, whose laws answer the needs.
 -- Assumes nothing.
-use Rattle.rle_decoder.proofs.Rows.{tail-room, RowsHead, rows-first, rows-end, one-left, within, rows-stop, rows-turn}
+use Rattle.rle_decoder.proofs.Rows.{RowsHead, rows-first, rows-end, one-left, within, rows-stop, rows-turn}
 use mathlib.Core.Path.{sym, ap, _∙_}
 use Prim.Native.Nat.{suc, _+_, _-_, _≤_}
 use native.Mathlib.Omega.{arith}
 use borrow.Author.Needs.{needs}
 use lib.ListN.{length, length-take, length-drop}
-use Rattle.rle_format.proofs.Slice.{put-back}
+use Rattle.rle_format.proofs.Slice.{tail-room, put-back}
 use Rattle.rle_format.specs.Answer.{number, told}
 use native.Mathlib.Nat.{suc-mul}
 use Rattle.rle_decoder.proofs.decode_rows_below.Statement.{statement}
@@ -80,7 +80,7 @@ resolve-scanline-delta-requires c κs =
     let i = d .before .before in
     let l = i .before .loop in
     let a = i .before .before .before .before .args in
-    tail-room (put-back (l .dst) (l .above + a .width) (d .decode-scanline .last .1 .1 .0)) (l .above) (a .width) (omega (arith, room i, c .before .before .before .before .before .dst .given .1, l .inv .len))
+    tail-room (put-back (l .dst) (l .above + a .width) (d .decode-scanline .last .1 .1 .0)) (l .above) (a .width + a .width) (omega (arith, room i, c .before .before .before .before .before .dst .given .1, l .inv .len))
 
 add-at : tie.Need-add-at Inv-loop μ-loop
 add-at c =

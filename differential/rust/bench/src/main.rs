@@ -1,5 +1,7 @@
 //! Measures the Rust and the port side by side: the same sources, the same buffers, in turn within each round.
 
+mod pictures;
+
 use comparer::planes::{self, longest_packing};
 use comparer::Rng;
 use std::hint::black_box;
@@ -122,4 +124,5 @@ fn main() {
         let task = Task { source: samples, answer: body.len(), result: body, room };
         print_line(kind, share(body), best_times(&PACKING, &task));
     }
+    pictures::measure();
 }

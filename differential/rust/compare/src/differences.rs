@@ -4,6 +4,7 @@ use comparer::bytes;
 use comparer::case::Operation;
 use comparer::check::answer_text;
 use comparer::demand::{Demand, Plane};
+use comparer::picture::{OwnedPicture, Sizes};
 use comparer::{Case, Input, Owned};
 use std::process::ExitCode;
 
@@ -57,34 +58,114 @@ const PACKING: [Place; 6] = [
     ("the source is short, and so is the destination", &["pp 2 1 05 -", "pp 1 2 05 -", "pp 3 2 01020304 EE*4"]),
 ];
 
+const PICTURES: [Place; 9] = [
+    ("width 0", &["iu 0 1 1 0 argb - - -", "iu 0 1 0 0 argb - - -", "iu 0 9000 1 0 argb - - -"]),
+    (
+        "height 0",
+        &["iu 1 0 1 0 argb - - -", "iu 1 0 1 0 argb 1005 - -", "iu 1 0 0 0 argb - - -", "iu 1 0 1 0 argb 00 - -"],
+    ),
+    (
+        "a side over 8192",
+        &[
+            "iu 8193 1 0 0 argb 05*24579 - EE*24579",
+            "iu 1 8193 0 0 argb 05*24579 - EE*24579",
+            "iu 3 8193 1 0 argb 03*24579 EE*73737 EE*73737",
+            "iu 8193 1 0 0 argb - - -",
+            "iu 4294967296 1073741824 0 0 argb - - -",
+            "iu 18446744073709551615 1 1 0 argb - - -",
+        ],
+    ),
+    (
+        "a loss level of 0 or over 7, a definition that there is not",
+        &[
+            "iu 1 1 0 1 0:0 00644000 - EE*3",
+            "iu 1 1 0 1 8:0 00640100 - EE*3",
+            "iu 1 1 0 1 9:0 00640100 - EE*3",
+            "iu 1 1 0 1 255:0 00640100 - EE*3",
+            "iu 1 1 0 0 2:1:0 000000 - EE*3",
+        ],
+    ),
+    (
+        "the same, and the body is short or damaged",
+        &["iu 1 1 0 0 0:0 - - -", "iu 1 1 1 0 0:0 - - -", "iu 1 1 1 0 0:0 000000 - -", "iu 1 1 1 0 9:0 10 - -"],
+    ),
+    (
+        "the work area is short",
+        &["iu 1 1 1 0 argb 100110021003 EE*2 EE*3", "iu 1 1 1 0 argb 100110021003 - EE*3", "iu 1 1 1 0 argb 0000 - -"],
+    ),
+    (
+        "the work area is longer than needed, and what a raw picture does to it",
+        &["iu 1 1 1 0 argb 100110021003 EE*5 EE*3", "iu 1 1 0 0 argb 010203 EE*5 EE*3"],
+    ),
+    (
+        "the image is short, or longer than needed",
+        &["iu 1 1 0 0 argb 010203 - EE*2", "iu 1 1 0 0 argb 010203 - -", "iu 1 1 0 0 argb 010203 - EE*4"],
+    ),
+    (
+        "the work area or the image is short, and the body is damaged",
+        &["iu 1 1 1 0 argb 000000 - -", "iu 1 1 1 0 argb 000000 EE*3 -", "iu 1 1 1 0 argb 100000 EE -"],
+    ),
+];
+
+/// Inside the domain, where both do the same: what document 01 says in few words.
+const ALIKE: [Place; 5] = [
+    ("the work area holds the planes after a picture is done", &["iu 1 1 1 1 1:0 10FF1064100A1014 EE*3 EE*3"]),
+    (
+        "raw and RLE, one pixel: examples 15 and 16",
+        &[
+            "iu 1 1 0 1 1:0 FF640A14 - EE*3",
+            "iu 1 1 1 1 1:1 10FF1064100A1014 EE*3 EE*3",
+            "iu 1 1 0 0 1:1 640A14 - EE*3",
+            "iu 1 1 1 0 1:0 1064100A1014 EE*3 EE*3",
+            "iu 1 1 0 1 2:1 FF644000 - EE*3",
+            "iu 1 1 1 1 2:0 10FF106410401000 EE*3 EE*3",
+        ],
+    ),
+    (
+        "a body of its least size need not be whole: example 17",
+        &["iu 48 1 1 0 argb F21077F21077 EE*144 EE*144", "iu 48 1 1 0 argb 020102010201 EE*144 EE*144"],
+    ),
+    ("alpha is left where the first colour plane is refused", &["iu 2 1 1 1 argb 200102100300 EE*6 EE*6"]),
+    ("a subsampled picture needs less", &["iu 2 2 1 0 1:1 2001022002041003100A EE*6 EE*12"]),
+];
+
 /// Runs the whole table.
 pub fn print_all() -> ExitCode {
     println!("plane unpacking");
     UNPACKING.iter().for_each(print_place);
     println!("plane packing");
     PACKING.iter().for_each(print_place);
+    println!("picture unpacking");
+    PICTURES.iter().for_each(print_place);
+    println!("picture unpacking, inside the domain");
+    ALIKE.iter().for_each(print_place);
     ExitCode::SUCCESS
 }
 
 fn print_place((place, cases): &Place) {
     println!(" {place}");
     for text in *cases {
-        let case = Owned::parse(text).expect("the table's own text");
-        print_call(&case);
+        print_input(&Input::parse(text).expect("the table's own text"));
     }
 }
 
 /// Runs one case, wherever it lies.
 pub fn print_one(text: &str) -> ExitCode {
-    match Input::parse(text) {
-        Some(Input::Call(case)) => print_call(&case),
-        Some(Input::Demand(case)) => print_demand(&case),
-        None => {
-            eprintln!("not a case: {text}");
-            return ExitCode::from(2);
-        }
-    }
+    let Some(input) = Input::parse(text) else {
+        eprintln!("not a case: {text}");
+        return ExitCode::from(2);
+    };
+    print_input(&input);
     ExitCode::SUCCESS
+}
+
+fn print_input(input: &Input) {
+    match input {
+        Input::Call(case) => print_call(case),
+        Input::Picture(case) => print_picture(case),
+        Input::Sizes(case) => print_sizes(case),
+        Input::Demand(case) => print_demand(case),
+    }
 }
 
 /// What the port does, on slices that are lent.
@@ -108,6 +189,42 @@ fn print_both(case: &Owned) {
     let port = by_port(case, &mut port_after);
     println!("    the Rust: {rust}, destination {}", bytes::text(&rust_after));
     println!("    the port: {}, destination {}", answer_text(port), bytes::text(&port_after));
+}
+
+/// The Rust gets the work area as it is, and an empty image: what it makes is appended to whatever there was.
+fn print_picture(case: &OwnedPicture) {
+    let OwnedPicture { width, height, form, .. } = *case;
+    println!("  {case}");
+    let (mut work, mut image) = (case.work.clone(), Vec::new());
+    match case.view().by_rust(&mut work, &mut image) {
+        Some(rust) => {
+            println!("    the Rust: {rust}, work area {}, image made {}", bytes::text(&work), bytes::text(&image));
+        }
+        None => println!("    the Rust: has no such definition"),
+    }
+    let (mut work, mut image) = (case.work.clone(), case.image.clone());
+    let form = ours::Form {
+        rle: form.rle,
+        alpha: form.alpha,
+        definition: form.definition,
+        level: form.level,
+        subsampled: form.subsampled,
+    };
+    let port = answer_text(ours::decode(form, &case.body, &mut work, &mut image, width, height));
+    println!("    the port: {port}, work area {}, image {}", bytes::text(&work), bytes::text(&image));
+}
+
+fn print_sizes(case: &Sizes) {
+    println!("  {case}");
+    println!("    by formula: work area {}, image {}", case.work(), case.image());
+    // SAFETY: nothing is lent.
+    let (work, image) = unsafe {
+        (
+            ours::rdp6_work_size(case.rle, case.definition, case.subsampled, case.width, case.height),
+            ours::rdp6_image_size(case.width, case.height),
+        )
+    };
+    println!("    the port: work area {work}, image {image}");
 }
 
 /// The packing that the rules make, what both packers make, what the demand wants of the bytes taken, what both unpackers do.

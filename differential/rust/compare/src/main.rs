@@ -1,14 +1,15 @@
 //! Compares the port's library with the Rust.
 //!
 //!   compare [SECONDS] [SEED]   the whole comparison
-//!   compare --case 'pu ...'    one case, both answers; also pp and d3
+//!   compare --case 'pu ...'    one case, both answers; also pp, iu, is and d3
 //!   compare --differences      what the Rust does outside document 01's domain, and what the port does
 
 mod differences;
 
+use comparer::picture::check::Pictures;
 use comparer::shrink::shrink;
-use comparer::{demand, packing, unpacking, Comparer, Library, Outcome};
-use ours::{rdp6_compress_8bpp_plane, rdp6_decompress_8bpp_plane};
+use comparer::{demand, packing, picture, unpacking, Comparer, Library, Outcome};
+use ours::{rdp6_compress_8bpp_plane, rdp6_decode, rdp6_decompress_8bpp_plane, rdp6_image_size, rdp6_work_size};
 use std::process::ExitCode;
 use std::time::{Duration, Instant};
 
@@ -30,8 +31,9 @@ fn main() -> ExitCode {
 
 fn usage() -> ExitCode {
     eprintln!("usage: run [SECONDS] [SEED] | run --case CASE | run --differences");
-    eprintln!("  a CASE is 'pu WIDTH HEIGHT BODY DST', 'pp WIDTH HEIGHT SAMPLES DST'");
-    eprintln!("  or 'd3 WIDTH HEIGHT SAMPLES M FOLLOWING DST'");
+    eprintln!("  a CASE is 'pu WIDTH HEIGHT BODY DST', 'pp WIDTH HEIGHT SAMPLES DST',");
+    eprintln!("  'iu WIDTH HEIGHT RLE ALPHA DEF BODY WORK IMAGE' with DEF argb or LEVEL:SUBSAMPLED,");
+    eprintln!("  'is WIDTH HEIGHT RLE DEFINITION SUBSAMPLED' or 'd3 WIDTH HEIGHT SAMPLES M FOLLOWING DST'");
     ExitCode::from(2)
 }
 
@@ -42,13 +44,19 @@ fn with_numbers(seconds: &str, seed: &str) -> ExitCode {
     }
 }
 
+const LIBRARY: Library = Library {
+    unpack: rdp6_decompress_8bpp_plane,
+    pack: rdp6_compress_8bpp_plane,
+    pictures: Pictures { decode: rdp6_decode, work_size: rdp6_work_size, image_size: rdp6_image_size },
+};
+
 /// Compares until the time is over, the part that is the same every time always whole.
 fn compare(seconds: u64, seed: u64) -> ExitCode {
     println!("plane unpacking: the Rust's decompress_8bpp_plane and the library's rdp6_decompress_8bpp_plane");
     println!("plane packing: the Rust's compress_8bpp_plane and the library's rdp6_compress_8bpp_plane");
+    println!("picture unpacking: the Rust's BitmapStreamDecoderImpl and the library's rdp6_decode");
     println!("{seconds} seconds, seed {seed}; each case is called twice, its slices at either end of guarded pages");
-    let library = Library { unpack: rdp6_decompress_8bpp_plane, pack: rdp6_compress_8bpp_plane };
-    let mut comparer = Comparer::new(library);
+    let mut comparer = Comparer::new(LIBRARY);
     let outcome = all_cases(&mut comparer, Duration::from_secs(seconds), seed);
     println!("{}", comparer.tally);
     let total = comparer.tally.total();
@@ -68,11 +76,41 @@ fn all_cases(comparer: &mut Comparer, time: Duration, seed: u64) -> Outcome {
     let end = end.max(Instant::now() + time / 3);
     let mut unpacking = unpacking::random::Random::new(seed);
     let mut packing = packing::random::Random::new(seed);
+    let mut pictures = picture::random::Random::new(seed);
     let mut demand = demand::random::Random::new(seed);
-    while Instant::now() < end {
-        unpacking.round(comparer)?;
-        packing.round(comparer)?;
-        demand.round(comparer)?;
+    let mut kinds: [Random<'_>; 4] = [
+        ("unpacking", &mut |comparer| unpacking.round(comparer)),
+        ("packing", &mut |comparer| packing.round(comparer)),
+        ("pictures", &mut |comparer| pictures.round(comparer)),
+        ("demand 3", &mut |comparer| demand.round(comparer)),
+    ];
+    random_cases(comparer, &mut kinds, end)
+}
+
+/// A kind of random cases: its name, and a round of it.
+type Random<'a> = (&'static str, &'a mut dyn FnMut(&mut Comparer) -> Outcome);
+
+/// How much a kind has had of the time, and what it did with it.
+#[derive(Clone, Copy, Default)]
+struct Share {
+    time: Duration,
+    cases: u64,
+}
+
+/// Rounds of the kinds, always of the one that has had the least time so far.
+fn random_cases(comparer: &mut Comparer, kinds: &mut [Random<'_>; 4], end: Instant) -> Outcome {
+    let mut shares = [Share::default(); 4];
+    let mut now = Instant::now();
+    while now < end {
+        let least = (0..4).min_by_key(|&kind| shares[kind].time).expect("there are kinds");
+        let before = comparer.tally.total();
+        (kinds[least].1)(comparer)?;
+        let begin = std::mem::replace(&mut now, Instant::now());
+        shares[least].time += now - begin;
+        shares[least].cases += comparer.tally.total() - before;
+    }
+    for ((name, _), share) in kinds.iter().zip(shares) {
+        println!("random cases of {name}: {} in {:.1} s", share.cases, share.time.as_secs_f64());
     }
     Ok(())
 }
@@ -80,8 +118,12 @@ fn all_cases(comparer: &mut Comparer, time: Duration, seed: u64) -> Outcome {
 /// The parts that are the same every time, with the seconds that they take.
 fn fixed_cases(comparer: &mut Comparer) -> Outcome {
     type Part = fn(&mut Comparer) -> Outcome;
-    let parts: [(&str, Part); 3] =
-        [("unpacking", unpacking::fixed::run), ("packing", packing::fixed::run), ("demand 3", demand::fixed::run)];
+    let parts: [(&str, Part); 4] = [
+        ("unpacking", unpacking::fixed::run),
+        ("packing", packing::fixed::run),
+        ("pictures", picture::fixed::run),
+        ("demand 3", demand::fixed::run),
+    ];
     for (name, run) in parts {
         let begin = Instant::now();
         run(comparer)?;

@@ -2,9 +2,10 @@
 
 use crate::bytes;
 use crate::case::{Case, Operation, Owned};
-use crate::input::Input;
-use crate::lend::{Lender, Side, SIDES};
-use crate::tally::{Kind, Tally};
+use crate::input::{Input, View};
+use crate::lend::{Lender, Loan, Side, SIDES};
+use crate::picture::check::{Afters, Pictures};
+use crate::tally::{Judge, Kind, Tally};
 use original::Answer;
 use std::fmt;
 
@@ -17,6 +18,7 @@ pub type Function = unsafe extern "C" fn(*const u8, usize, *mut u8, usize, usize
 pub struct Library {
     pub unpack: Function,
     pub pack: Function,
+    pub pictures: Pictures,
 }
 
 impl Library {
@@ -28,18 +30,28 @@ impl Library {
     }
 }
 
+/// What the slices that are written to hold after a call, each with its name.
+#[derive(Clone, Debug)]
+pub struct After(pub Vec<(&'static str, Vec<u8>)>);
+
+impl fmt::Display for After {
+    fn fmt(&self, f: &mut fmt::Formatter<'_>) -> fmt::Result {
+        self.0.iter().try_for_each(|(name, after)| write!(f, ", {name} {}", bytes::text(after)))
+    }
+}
+
 /// A call that does not do what it must.
 #[derive(Clone, Debug)]
 pub struct Difference {
     pub case: Input,
     pub reason: String,
     pub wanted: Answer,
-    pub wanted_after: Vec<u8>,
+    pub wanted_after: After,
     /// Whose call it was.
     pub whose: &'static str,
     /// What that answered, in words.
     pub got: String,
-    pub got_after: Vec<u8>,
+    pub got_after: After,
 }
 
 /// Nothing, or the difference that was found.
@@ -49,8 +61,8 @@ impl fmt::Display for Difference {
     fn fmt(&self, f: &mut fmt::Formatter<'_>) -> fmt::Result {
         writeln!(f, "different: {}", self.reason)?;
         writeln!(f, "  {}", self.case)?;
-        writeln!(f, "  {}: {}, destination {}", self.case.judge(), self.wanted, bytes::text(&self.wanted_after))?;
-        write!(f, "  {}: {}, destination {}", self.whose, self.got, bytes::text(&self.got_after))
+        writeln!(f, "  {}: {}{}", self.case.judge(), self.wanted, self.wanted_after)?;
+        write!(f, "  {}: {}{}", self.whose, self.got, self.got_after)
     }
 }
 
@@ -65,11 +77,13 @@ pub fn answer_text(number: i64) -> String {
 
 /// A library, what is lent to it, and what was compared so far.
 pub struct Comparer {
-    library: Library,
-    lender: Lender,
+    pub(crate) library: Library,
+    pub(crate) lender: Lender,
     /// What the destination must hold after the call, and what it holds.
     pub(crate) wanted_after: Vec<u8>,
     pub(crate) got_after: Vec<u8>,
+    /// The same of a picture's two slices.
+    pub(crate) afters: Afters,
     pub tally: Tally,
 }
 
@@ -80,6 +94,7 @@ impl Comparer {
             lender: Lender::default(),
             wanted_after: Vec::new(),
             got_after: Vec::new(),
+            afters: Afters::default(),
             tally: Tally::default(),
         }
     }
@@ -91,8 +106,9 @@ impl Comparer {
 
     /// The same with the slices at these sides of their pages only, where both would take too long.
     pub fn compare_at(&mut self, kind: Kind, case: Case<'_>, sides: &[Side]) -> Outcome {
+        let judge = Judge::rust_if(case.refused_at_entry().is_none());
         let wanted = self.ask(case);
-        self.tally.count(kind, &wanted);
+        self.tally.count(kind, judge, &wanted);
         self.hold_to(case, wanted, sides)
     }
 
@@ -100,6 +116,8 @@ impl Comparer {
     pub fn look(&mut self, input: &Input) -> Outcome {
         match input {
             Input::Call(case) => self.look_at_call(case),
+            Input::Picture(case) => self.look_at_picture(case),
+            Input::Sizes(case) => self.look_at_sizes(case),
             Input::Demand(case) => self.look_at_demand(case),
         }
     }
@@ -130,8 +148,14 @@ impl Comparer {
     /// What it does wrong, if anything, with its answer; `got_after` then has its destination.
     pub(crate) fn library_fault(&mut self, case: Case<'_>, wanted: &Answer, sides: &[Side]) -> Option<(String, i64)> {
         let function = self.library.function(case.operation);
+        let (len, room) = (case.source.len(), case.before.len());
         for &side in sides {
-            let (got, harm) = self.lender.call(function, case, side, &mut self.got_after);
+            let loans =
+                [Loan::read("source", case.source), Loan::written("destination", case.before, &mut self.got_after)];
+            // SAFETY: both are lent for this call. That it keeps to them is what is tested.
+            let (got, harm) = self.lender.call(View::Call(case), side, loans, |[src, dst]| unsafe {
+                function(src, len, dst, room, case.width, case.height)
+            });
             if let Some(reason) = harm.or_else(|| self.fault(wanted.number() == Some(got))) {
                 return Some((reason, got));
             }
@@ -158,7 +182,8 @@ impl Comparer {
         whose: &'static str,
         got: String,
     ) -> Box<Difference> {
-        let (wanted_after, got_after) = (self.wanted_after.clone(), self.got_after.clone());
+        let destination = |after: &Vec<u8>| After(vec![("destination", after.clone())]);
+        let (wanted_after, got_after) = (destination(&self.wanted_after), destination(&self.got_after));
         Box::new(Difference { case, reason, wanted, wanted_after, whose, got, got_after })
     }
 }

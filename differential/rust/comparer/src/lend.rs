@@ -4,8 +4,8 @@
 //! When a forbidden page is touched, the fault is noted and the page is opened, so that the call goes on: the case can be
 //! told and made smaller instead of the program dying.
 
-use crate::case::Case;
-use crate::check::Function;
+use crate::input::View;
+use std::array;
 use std::cell::Cell;
 use std::ffi::{c_int, c_void};
 use std::ptr;
@@ -53,7 +53,7 @@ thread_local! {
     /// The first forbidden address that this thread touched since it was last set to 0.
     static TOUCHED: Cell<usize> = const { Cell::new(0) };
     /// The case of the call that this thread is in.
-    static CURRENT: Cell<*const Case<'static>> = const { Cell::new(ptr::null()) };
+    static CURRENT: Cell<*const View<'static>> = const { Cell::new(ptr::null()) };
 }
 
 fn protect(at: usize, len: usize, prot: c_int) {
@@ -232,11 +232,30 @@ impl Region {
     }
 }
 
-/// All that can be lent, by number of pages.
+/// A slice that is lent: its name, its bytes, and if it may be written to, where they go after the call.
+pub struct Loan<'a> {
+    pub name: &'static str,
+    pub bytes: &'a [u8],
+    pub after: Option<&'a mut Vec<u8>>,
+}
+
+impl<'a> Loan<'a> {
+    pub fn read(name: &'static str, bytes: &'a [u8]) -> Self {
+        Loan { name, bytes, after: None }
+    }
+
+    pub fn written(name: &'static str, bytes: &'a [u8], after: &'a mut Vec<u8>) -> Self {
+        Loan { name, bytes, after: Some(after) }
+    }
+}
+
+/// No call has more slices.
+const SLICES: usize = 3;
+
+/// All that can be lent: for each slice of a call, the regions by number of pages.
 #[derive(Default)]
 pub struct Lender {
-    sources: Vec<Option<Region>>,
-    destinations: Vec<Option<Region>>,
+    regions: [Vec<Option<Region>>; SLICES],
 }
 
 /// Slices of more pages than this share regions of twice the size, or there would be one for every length of a large plane.
@@ -254,58 +273,64 @@ fn region_for(regions: &mut Vec<Option<Region>>, len: usize) -> &Region {
 }
 
 impl Lender {
-    /// Calls the function on a case, its slices lying at this side of their pages. `after` gets the destination. Answers
-    /// what it answered, and what it did that it may not do, if anything.
-    pub fn call(
+    /// Calls a function with the slices of a case, which lie at this side of their pages. Answers what it answered, and what
+    /// it did that it may not do, if anything.
+    pub fn call<const N: usize>(
         &mut self,
-        function: Function,
-        case: Case<'_>,
+        case: View<'_>,
         side: Side,
-        after: &mut Vec<u8>,
+        loans: [Loan<'_>; N],
+        function: impl FnOnce([*mut u8; N]) -> i64,
     ) -> (i64, Option<String>) {
-        let (room, len) = (case.before.len(), case.source.len());
-        let source = region_for(&mut self.sources, len);
-        let destination = region_for(&mut self.destinations, room);
-        let src = source.lend(case.source, side);
-        let dst = destination.lend(case.before, side);
+        let mut slots = self.regions.iter_mut();
+        let regions: [&Region; N] =
+            array::from_fn(|at| region_for(slots.next().expect("a slot for each slice"), loans[at].bytes.len()));
+        let lent = array::from_fn(|at| regions[at].lend(loans[at].bytes, side));
         TOUCHED.set(0);
         CURRENT.set((&raw const case).cast());
-        // SAFETY: both are lent for this call. That it keeps to them is what is tested.
-        let answer = unsafe { function(src, len, dst, room, case.width, case.height) };
+        let answer = function(lent);
         CURRENT.set(ptr::null());
-        after.clear();
-        after.extend_from_slice(destination.lent(room, side));
-        let harm = harm_done(source, destination, case, side);
-        if harm.is_some() {
-            source.restore();
-            destination.restore();
-        } else {
-            source.take_back(len, side);
-            destination.take_back(room, side);
+        let harm = harm_done(&regions, &loans, side);
+        for (region, loan) in regions.into_iter().zip(loans) {
+            let len = loan.bytes.len();
+            if let Some(after) = loan.after {
+                after.clear();
+                after.extend_from_slice(region.lent(len, side));
+            }
+            if harm.is_some() {
+                region.restore();
+            } else {
+                region.take_back(len, side);
+            }
         }
         (answer, harm)
     }
 }
 
-/// What a call did outside its destination, if anything.
-fn harm_done(source: &Region, destination: &Region, case: Case<'_>, side: Side) -> Option<String> {
-    let (room, len) = (case.before.len(), case.source.len());
+/// What a call did outside the slices that it may write to, if anything.
+fn harm_done(regions: &[&Region], loans: &[Loan<'_>], side: Side) -> Option<String> {
     let touched = TOUCHED.replace(0);
     if touched != 0 {
-        if let Some(place) = source.told(touched, len, side) {
-            return Some(format!("touches a byte outside the source, {place}"));
+        return Some(touch_told(regions, loans, side, touched));
+    }
+    for (region, loan) in regions.iter().zip(loans) {
+        let (name, len) = (loan.name, loan.bytes.len());
+        if loan.after.is_none() && region.lent(len, side) != loan.bytes {
+            return Some(format!("writes to the {name}"));
         }
-        let place = destination.told(touched, room, side).unwrap_or("far from it".to_owned());
-        return Some(format!("touches a byte outside the destination, {place}"));
-    }
-    if source.lent(len, side) != case.source {
-        return Some("writes to the source".to_owned());
-    }
-    if !source.canaries_live(len, side) {
-        return Some("writes beside the source".to_owned());
-    }
-    if !destination.canaries_live(room, side) {
-        return Some("writes beside the destination".to_owned());
+        if !region.canaries_live(len, side) {
+            return Some(format!("writes beside the {name}"));
+        }
     }
     None
+}
+
+/// Outside which slice the address lies, and how far.
+fn touch_told(regions: &[&Region], loans: &[Loan<'_>], side: Side, address: usize) -> String {
+    for (region, loan) in regions.iter().zip(loans) {
+        if let Some(place) = region.told(address, loan.bytes.len(), side) {
+            return format!("touches a byte outside the {}, {place}", loan.name);
+        }
+    }
+    "touches a byte far from what was lent".to_owned()
 }

@@ -1,5 +1,6 @@
-//! Holds a plane unpacker and a plane packer to the Rust inside document 01's domain and to document 01 outside it, byte
-//! by byte, on slices whose surroundings are watched; and both pairs, the Rust's and the library's, to demand 3.
+//! Holds a plane unpacker, a plane packer and a picture decoder to the Rust inside document 01's domain and to document 01
+//! outside it, byte by byte, on slices whose surroundings are watched; and both pairs of plane coders, the Rust's and the
+//! library's, to demand 3.
 
 pub mod bytes;
 pub mod case;
@@ -8,6 +9,7 @@ pub mod demand;
 pub mod input;
 pub mod lend;
 pub mod packing;
+pub mod picture;
 pub mod planes;
 pub mod rng;
 pub mod shrink;

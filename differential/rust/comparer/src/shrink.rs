@@ -3,6 +3,7 @@
 mod call;
 mod demand;
 mod pack;
+mod picture;
 mod plane;
 mod rows;
 mod unpack;
@@ -38,6 +39,8 @@ fn smaller_inputs(input: &Input) -> Box<dyn Iterator<Item = Input> + '_> {
             Operation::Unpack => Box::new(unpack::smaller(case).map(Input::Call)),
             Operation::Pack => Box::new(pack::smaller(case).map(Input::Call)),
         },
+        Input::Picture(case) => Box::new(picture::smaller(case).map(Input::Picture)),
+        Input::Sizes(case) => Box::new(picture::smaller_sizes(case).map(Input::Sizes)),
         Input::Demand(case) => Box::new(demand::smaller(case).map(Input::Demand)),
     }
 }

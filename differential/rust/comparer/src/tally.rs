@@ -8,7 +8,29 @@ use std::fmt;
 enum Part {
     Unpacking,
     Packing,
+    Pictures,
+    Sizes,
     Demand,
+}
+
+/// Who says what a case must do.
+#[derive(Clone, Copy, PartialEq, Eq)]
+pub enum Judge {
+    Rust,
+    /// Outside the domain.
+    Document,
+    /// Of demand 3.
+    Model,
+}
+
+impl Judge {
+    pub fn rust_if(inside: bool) -> Judge {
+        if inside {
+            Judge::Rust
+        } else {
+            Judge::Document
+        }
+    }
 }
 
 /// Where a case comes from.
@@ -36,6 +58,26 @@ pub enum Kind {
     RandomPlanes,
     RandomSources,
     RandomSides,
+    PictureExamples,
+    PictureTable,
+    PictureLevels,
+    PictureSides,
+    PictureWidths,
+    PictureLengths,
+    PictureOrder,
+    PictureCut,
+    PictureDamaged,
+    PictureColours,
+    PictureLongSides,
+    PictureLargest,
+    RandomPictures,
+    RandomFollowing,
+    RandomCut,
+    RandomDamaged,
+    RandomLengths,
+    RandomBodies,
+    RandomRefused,
+    SizesTable,
     DemandSmall,
     DemandTelling,
     DemandLong,
@@ -43,7 +85,7 @@ pub enum Kind {
 }
 
 /// Each kind with its part and its line of the report, in the order of the enum.
-const KINDS: [(Kind, Part, &str); 26] = [
+const KINDS: [(Kind, Part, &str); 46] = [
     (Kind::Short, Part::Unpacking, "all bodies of up to 2 bytes"),
     (Kind::Alphabet, Part::Unpacking, "bodies of 3 to 5 bytes of a telling alphabet"),
     (Kind::Rooms, Part::Unpacking, "every destination length around width x height"),
@@ -66,6 +108,26 @@ const KINDS: [(Kind, Part, &str); 26] = [
     (Kind::RandomPlanes, Part::Packing, "random planes"),
     (Kind::RandomSources, Part::Packing, "random planes, sources longer or shorter"),
     (Kind::RandomSides, Part::Packing, "random sides outside the domain"),
+    (Kind::PictureExamples, Part::Pictures, "document 01's examples and the like"),
+    (Kind::PictureTable, Part::Pictures, "a table of sides, most of them refused"),
+    (Kind::PictureLevels, Part::Pictures, "all loss levels, all definitions"),
+    (Kind::PictureSides, Part::Pictures, "all sides of 1 to 9, all forms"),
+    (Kind::PictureWidths, Part::Pictures, "all widths of 10 to 100"),
+    (Kind::PictureLengths, Part::Pictures, "body, work area, image around their limits"),
+    (Kind::PictureOrder, Part::Pictures, "several refusals at once"),
+    (Kind::PictureCut, Part::Pictures, "small RLE pictures, every cut"),
+    (Kind::PictureDamaged, Part::Pictures, "small RLE pictures, every byte changed"),
+    (Kind::PictureColours, Part::Pictures, "every Y, Co, Cg at every level"),
+    (Kind::PictureLongSides, Part::Pictures, "sides of 8191 and 8192"),
+    (Kind::PictureLargest, Part::Pictures, "pictures of 8192 x 8192"),
+    (Kind::RandomPictures, Part::Pictures, "random pictures, whole"),
+    (Kind::RandomFollowing, Part::Pictures, "random pictures with bytes following"),
+    (Kind::RandomCut, Part::Pictures, "random pictures, cut"),
+    (Kind::RandomDamaged, Part::Pictures, "random pictures, 1 to 3 bytes damaged"),
+    (Kind::RandomLengths, Part::Pictures, "random pictures, slices of other lengths"),
+    (Kind::RandomBodies, Part::Pictures, "bodies made segment by segment or of noise"),
+    (Kind::RandomRefused, Part::Pictures, "random sides, levels, definitions outside the domain"),
+    (Kind::SizesTable, Part::Sizes, "a table of sides"),
     (Kind::DemandSmall, Part::Demand, "all planes of up to 8 samples, every cut"),
     (Kind::DemandTelling, Part::Demand, "rows of telling runs and literals"),
     (Kind::DemandLong, Part::Demand, "sides of 8191 and 8192"),
@@ -76,47 +138,58 @@ const KINDS: [(Kind, Part, &str); 26] = [
 #[derive(Clone, Default)]
 struct Answers {
     done: u64,
-    /// By the number of the refusal.
+    /// By the number of the refusal: inside the domain, and outside it.
     refused: [u64; 13],
+    refused_outside: [u64; 13],
+}
+
+/// `by 7: 3, by 8: 0` and so on.
+fn listed(refused: &[u64; 13], numbers: &[usize]) -> String {
+    let texts: Vec<_> = numbers.iter().map(|&number| format!("by {number}: {}", refused[number])).collect();
+    texts.join(", ")
 }
 
 impl Answers {
-    fn all(&self) -> u64 {
+    fn inside(&self) -> u64 {
         self.done + self.refused.iter().sum::<u64>()
     }
 
-    /// The cases that are held to document 01, since it refuses them before the Rust is of use.
     fn outside(&self) -> u64 {
-        [1, 2, 10, 11].iter().map(|&number| self.refused[number]).sum()
+        self.refused_outside.iter().sum()
     }
 
-    /// The two lines on how they came out: what a done case has done, the refusals inside the domain and outside it.
+    fn all(&self) -> u64 {
+        self.inside() + self.outside()
+    }
+
+    /// The lines on how they came out: what a done case has done, the refusals inside the domain and outside it.
     fn write(&self, f: &mut fmt::Formatter<'_>, done: &str, inside: &[usize], outside: &[usize]) -> fmt::Result {
-        let listed = |numbers: &[usize]| {
-            let texts: Vec<_> =
-                numbers.iter().map(|&number| format!("by {number}: {}", self.refused[number])).collect();
-            texts.join(", ")
-        };
-        let held = self.all() - self.outside();
-        writeln!(f, "  inside the domain, held to the Rust: {held}")?;
-        writeln!(f, "    ({done} {}, refused {})", self.done, listed(inside))?;
+        writeln!(f, "  inside the domain, held to the Rust: {}", self.inside())?;
+        writeln!(f, "    ({done} {}, refused {})", self.done, listed(&self.refused, inside))?;
         writeln!(f, "  outside the domain, held to document 01: {}", self.outside())?;
-        writeln!(f, "    (refused {})", listed(outside))
+        writeln!(f, "    (refused {})", listed(&self.refused_outside, outside))
     }
 }
 
-#[derive(Clone, Default)]
+#[derive(Clone)]
 pub struct Tally {
     kinds: [u64; KINDS.len()],
-    parts: [Answers; 3],
+    parts: [Answers; 5],
+}
+
+impl Default for Tally {
+    fn default() -> Self {
+        Tally { kinds: [0; KINDS.len()], parts: Default::default() }
+    }
 }
 
 impl Tally {
-    pub fn count(&mut self, kind: Kind, wanted: &Answer) {
+    pub fn count(&mut self, kind: Kind, judge: Judge, wanted: &Answer) {
         self.kinds[kind as usize] += 1;
         let answers = &mut self.parts[KINDS[kind as usize].1 as usize];
-        match wanted {
-            Answer::Refused(number) => answers.refused[usize::from(*number)] += 1,
+        match (wanted, judge) {
+            (Answer::Refused(number), Judge::Document) => answers.refused_outside[usize::from(*number)] += 1,
+            (Answer::Refused(number), _) => answers.refused[usize::from(*number)] += 1,
             _ => answers.done += 1,
         }
     }
@@ -136,13 +209,17 @@ impl Tally {
 
 impl fmt::Display for Tally {
     fn fmt(&self, f: &mut fmt::Formatter<'_>) -> fmt::Result {
-        let [unpacking, packing, demand] = &self.parts;
+        let [unpacking, packing, pictures, sizes, demand] = &self.parts;
         writeln!(f, "plane unpacking: {}", unpacking.all())?;
         self.write_kinds(f, Part::Unpacking)?;
         unpacking.write(f, "read", &[7, 8, 9], &[1, 2, 10])?;
         writeln!(f, "plane packing: {}", packing.all())?;
         self.write_kinds(f, Part::Packing)?;
         packing.write(f, "written", &[12], &[1, 2, 11])?;
+        writeln!(f, "picture unpacking: {}", pictures.all())?;
+        self.write_kinds(f, Part::Pictures)?;
+        pictures.write(f, "made", &[4, 7, 8, 9], &[1, 2, 3, 4, 5, 6])?;
+        writeln!(f, "sizes of work area and image, held to formulas: {}", sizes.all())?;
         writeln!(f, "demand 3, packed and unpacked again: {}", demand.all())?;
         self.write_kinds(f, Part::Demand)?;
         writeln!(f, "  both pairs held to a model of document 01's rules: {}", demand.all())?;

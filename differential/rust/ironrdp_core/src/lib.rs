@@ -1,4 +1,28 @@
-//! Stands in for the crate `ironrdp_core`. Of it the plane coder uses `WriteCursor`: a slice and how far it is written.
+//! Stands in for the crate `ironrdp_core`. Of it the plane coder uses `WriteCursor`: a slice and how far it is written. The
+//! picture decoder names `decode` and its error, but is entered behind them.
+
+use std::fmt;
+
+/// What a parser could not read, without its reasons.
+#[derive(Debug)]
+pub struct DecodeError;
+
+impl fmt::Display for DecodeError {
+    fn fmt(&self, f: &mut fmt::Formatter<'_>) -> fmt::Result {
+        write!(f, "not parsed")
+    }
+}
+
+impl std::error::Error for DecodeError {}
+
+/// What has a parser.
+pub trait Decode<'de>: Sized {
+    fn decode(src: &'de [u8]) -> Result<Self, DecodeError>;
+}
+
+pub fn decode<'de, T: Decode<'de>>(src: &'de [u8]) -> Result<T, DecodeError> {
+    T::decode(src)
+}
 
 pub struct WriteCursor<'a> {
     inner: &'a mut [u8],

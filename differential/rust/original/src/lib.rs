@@ -3,18 +3,22 @@
 
 include!(concat!(env!("OUT_DIR"), "/modules.rs"));
 
+mod color_conversion;
 mod panics;
+mod picture;
+
+pub use picture::{decode, Definition, Header};
 
 use ironrdp_core::WriteCursor;
 use rdp6::rle::{compress_8bpp_plane, decompress_8bpp_plane, RleDecodeError, RleEncodeError};
 use std::fmt;
 
-/// What the Rust answers to a plane that it is to unpack or to pack.
+/// What the Rust answers to a plane that it is to unpack or to pack, or to a picture that it is to unpack.
 #[derive(Clone, Debug, PartialEq, Eq)]
 pub enum Answer {
-    /// So many bytes were read by unpacking, or written by packing.
+    /// So many bytes were read by unpacking a plane, or written by packing one; or so many bytes of image were made.
     Done(usize),
-    /// Document 01's number: 7, 8 or 9 from unpacking, 11 or 12 from packing.
+    /// Document 01's number: 7, 8 or 9 from unpacking, 11 or 12 from packing; 4, 7, 8 or 9 from a picture.
     Refused(u8),
     /// The destination ended inside the first row. No number of document 01: it refuses by 10 before.
     WriteError,
@@ -23,6 +27,15 @@ pub enum Answer {
 }
 
 impl Answer {
+    fn of(error: RleDecodeError) -> Answer {
+        match error {
+            RleDecodeError::ReadCompressedData(_) => Answer::Refused(7),
+            RleDecodeError::InvalidSegmentHeader => Answer::Refused(8),
+            RleDecodeError::SegmentDoNotFitScanline => Answer::Refused(9),
+            RleDecodeError::WriteDecompressedData(_) => Answer::WriteError,
+        }
+    }
+
     /// The answer in one number, as the library gives it: bytes read or written, or minus the refusal's number.
     pub fn number(&self) -> Option<i64> {
         match self {
@@ -48,10 +61,7 @@ impl fmt::Display for Answer {
 pub fn unpack(src: &[u8], dst: &mut [u8], width: usize, height: usize) -> Answer {
     match panics::caught(|| decompress_8bpp_plane(src, dst, width, height)) {
         Ok(Ok(count)) => Answer::Done(count),
-        Ok(Err(RleDecodeError::ReadCompressedData(_))) => Answer::Refused(7),
-        Ok(Err(RleDecodeError::InvalidSegmentHeader)) => Answer::Refused(8),
-        Ok(Err(RleDecodeError::SegmentDoNotFitScanline)) => Answer::Refused(9),
-        Ok(Err(RleDecodeError::WriteDecompressedData(_))) => Answer::WriteError,
+        Ok(Err(error)) => Answer::of(error),
         Err(place) => Answer::Panic(place),
     }
 }

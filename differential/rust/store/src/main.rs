@@ -1,13 +1,19 @@
-//! Writes samples of the Rust's answers inside document 01's domain, one case a line, one file each for unpacking and for
-//! packing:
+//! Writes samples of the Rust's answers inside document 01's domain, one case a line: a file each for unpacking and packing of
+//! planes,
 //!
 //!   WIDTH HEIGHT ROOM ANSWER SOURCE AFTER
+//!
+//! and one for unpacking of pictures,
+//!
+//!   WIDTH HEIGHT RLE ALPHA DEFINITION LEVEL SUBSAMPLED WORK-ROOM IMAGE-ROOM ANSWER BODY WORK-AFTER IMAGE-AFTER
 //!
 //! README.md has the format. The samples are the same in every run.
 //!
 //!   store FOLDER
 
 mod pack_sample;
+mod picture_sample;
+mod pictures;
 mod sample;
 
 use comparer::bytes;
@@ -22,29 +28,14 @@ const BEFORE: u8 = 0xEE;
 const LONGEST: usize = 20_000;
 
 /// The lines so far. A case that came before is left out.
-pub struct Stored {
-    operation: Operation,
+#[derive(Default)]
+pub struct Lines {
     lines: Vec<String>,
     seen: HashSet<String>,
 }
 
-impl Stored {
-    fn new(operation: Operation) -> Self {
-        Stored { operation, lines: Vec::new(), seen: HashSet::new() }
-    }
-
-    /// Asks the Rust and keeps its answer.
-    pub fn keep(&mut self, width: usize, height: usize, room: usize, source: &[u8]) {
-        let before = vec![BEFORE; room];
-        let case = Owned { operation: self.operation, width, height, source: source.to_vec(), before };
-        assert_eq!(case.view().refused_at_entry(), None, "a case outside the domain");
-        assert!(room <= LONGEST && source.len() <= LONGEST, "a case that is too long");
-        let mut after = case.before.clone();
-        let answer = case.view().by_rust(&mut after);
-        let Some(number) = answer.number() else {
-            panic!("the Rust answers {answer} inside the domain");
-        };
-        let line = format!("{width} {height} {room} {number} {} {}\n", bytes::text(source), bytes::text(&after));
+impl Lines {
+    fn add(&mut self, line: String) {
         if self.seen.insert(line.clone()) {
             self.lines.push(line);
         }
@@ -61,12 +52,43 @@ impl Stored {
     }
 }
 
-/// A file's name, what is stored in it, and what chooses its cases.
-type Sample = (&'static str, Operation, fn(&mut Stored));
+/// Cases of planes.
+pub struct Stored {
+    operation: Operation,
+    lines: Lines,
+}
 
-const SAMPLES: [Sample; 2] = [
-    ("plane-unpack.txt", Operation::Unpack, sample::keep_all),
-    ("plane-pack.txt", Operation::Pack, pack_sample::keep_all),
+impl Stored {
+    /// The lines of all cases that something chooses.
+    fn lines_of(operation: Operation, keep_all: fn(&mut Stored)) -> Lines {
+        let mut stored = Stored { operation, lines: Lines::default() };
+        keep_all(&mut stored);
+        stored.lines
+    }
+
+    /// Asks the Rust and keeps its answer.
+    pub fn keep(&mut self, width: usize, height: usize, room: usize, source: &[u8]) {
+        let before = vec![BEFORE; room];
+        let case = Owned { operation: self.operation, width, height, source: source.to_vec(), before };
+        assert_eq!(case.view().refused_at_entry(), None, "a case outside the domain");
+        assert!(room <= LONGEST && source.len() <= LONGEST, "a case that is too long");
+        let mut after = case.before.clone();
+        let answer = case.view().by_rust(&mut after);
+        let Some(number) = answer.number() else {
+            panic!("the Rust answers {answer} inside the domain");
+        };
+        let line = format!("{width} {height} {room} {number} {} {}\n", bytes::text(source), bytes::text(&after));
+        self.lines.add(line);
+    }
+}
+
+/// A file's name, and what makes its lines.
+type Sample = (&'static str, fn() -> Lines);
+
+const SAMPLES: [Sample; 3] = [
+    ("plane-unpack.txt", || Stored::lines_of(Operation::Unpack, sample::keep_all)),
+    ("plane-pack.txt", || Stored::lines_of(Operation::Pack, pack_sample::keep_all)),
+    ("picture-unpack.txt", pictures::lines),
 ];
 
 fn main() -> ExitCode {
@@ -74,10 +96,8 @@ fn main() -> ExitCode {
         eprintln!("usage: store FOLDER");
         return ExitCode::from(2);
     };
-    for (name, operation, keep_all) in SAMPLES {
-        let mut stored = Stored::new(operation);
-        keep_all(&mut stored);
-        if let Err(status) = stored.write(&Path::new(&folder).join(name)) {
+    for (name, lines) in SAMPLES {
+        if let Err(status) = lines().write(&Path::new(&folder).join(name)) {
             return status;
         }
     }

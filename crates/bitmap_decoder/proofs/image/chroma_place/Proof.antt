@@ -1,15 +1,12 @@
+-- `chroma_place`: each return is a case of `chromaPlace`. Assumes nothing.
 use Rattle.bitmap_format.specs.Image.{chromaPlace}
 use Rattle.bitmap_decoder.proofs.image.chroma_place.Statement.{statement}
 use Rattle.bitmap_decoder.proofs.image.chroma_place.Tie as tie
-use Rattle.bitmap_decoder.proofs.image.chroma_place.Reads as reads
-use Rattle.bitmap_decoder.proofs.image.chroma_place.Lts as lts
 
--- src/image.rt:20:9
 returns : tie.Need-returns
 unfolding chromaPlace
 returns c = rw (c .if1 .taken)
 
--- src/image.rt:16:1
 returns-2 : tie.Need-returns-2
 unfolding chromaPlace
 returns-2 c = rw (c .if1 .left)

@@ -1,18 +1,17 @@
-use Prim.Native.Nat.{ℕ, _+_, _-_, _*_, _≤_}
+-- `write_argb_planes_to_rgb24`: a turn of its loop is a row; the invariant is `ImageHead` of Images.antt, `Rooms` its room.
+-- Assumes nothing.
+use Rattle.rle_format.proofs.Slice.{tail-room}
+use Prim.Native.Nat.{_+_, _-_, _*_, _≤_}
 use mathlib.Core.Bool.{false}
-use mathlib.Core.Path.{refl, sym, ap, _∙_}
+use mathlib.Core.Path.{refl}
 use native.Mathlib.Omega.{arith}
-use borrow.Author.Needs.{needs}
 use lib.ListN.{length}
 use Rattle.rle_format.proofs.Plane.{area-most}
-use Rattle.bitmap_format.specs.declared.ColorPlaneDefinition.the-variants.{Argb, AYCoCg}
+use Rattle.bitmap_format.specs.declared.ColorPlaneDefinition.the-variants.{Argb}
 use Rattle.bitmap_format.specs.Image.{imageRow}
-use Rattle.bitmap_decoder.proofs.Images.{Rooms, argb-rooms, rooms, Areas, areas, image-room, tail-room, argb-row-is, aycocg-row-is, ImageHead, image-first, image-turn, image-full}
+use Rattle.bitmap_decoder.proofs.Images.{Rooms, argb-rooms, image-room, argb-row-is, ImageHead, image-first, image-turn, image-full}
 use Rattle.bitmap_decoder.proofs.image.write_argb_planes_to_rgb24.Statement.{statement}
 use Rattle.bitmap_decoder.proofs.image.write_argb_planes_to_rgb24.Tie as tie
-use Rattle.bitmap_decoder.proofs.image.write_argb_planes_to_rgb24.Reads as reads
-use Rattle.bitmap_decoder.proofs.image.write_argb_planes_to_rgb24.Lts as lts
-use Rattle.bitmap_decoder.proofs.row.write_argb_row.Reads as write-argb-row-reads
 
 abbrev Inv-loop : tie.InvT-loop
 Inv-loop planes image₀ width height full row₀ image row = (row ≤ height) × ImageHead image₀ image row width (imageRow Argb false width height planes)
@@ -30,89 +29,68 @@ fits c =
     let s = (c .before .before .before .before) in
     omega (arith, image-room (c .before .loop .row) (s .args .width) (s .args .height) (length (s .args .image .now)) (c .loop-test .taken) (s .pre .3), c .before .loop .inv .1 .len)
 
--- src/image.rt:35:16
 mul-full : tie.Need-mul-full Inv-loop μ-loop
 mul-full c =
     let s = (c .before .before) in
     omega (arith, area-most (s .args .width) (s .args .height) (s .pre .0) (s .pre .1))
 
--- src/image.rt:37:5
 loop-holds : tie.Need-loop-holds Inv-loop μ-loop
 loop-holds c = (omega arith, image-first _ _ _)
 
--- src/image.rt:38:21
 mul-start : tie.Need-mul-start Inv-loop μ-loop
 mul-start c = omega (arith, room (c))
 
--- src/image.rt:40:13
 sub-write-argb-row : tie.Need-sub-write-argb-row Inv-loop μ-loop
 sub-write-argb-row c = omega (arith, room (c))
 
--- src/image.rt:40:13
 part-write-argb-row-start : tie.Need-part-write-argb-row-start Inv-loop μ-loop
 part-write-argb-row-start c = omega (arith, room (c))
 
--- src/image.rt:40:13
 part-write-argb-row-end : tie.Need-part-write-argb-row-end Inv-loop μ-loop
 part-write-argb-row-end c = omega (arith, room (c))
 
--- src/image.rt:41:21
 add-write-argb-row : tie.Need-add-write-argb-row Inv-loop μ-loop
 add-write-argb-row c = omega (arith, room ((c .before)))
 
--- src/image.rt:41:13
 sub-write-argb-row-2 : tie.Need-sub-write-argb-row-2 Inv-loop μ-loop
 sub-write-argb-row-2 c = omega (arith, room ((c .before)))
 
--- src/image.rt:41:13
 part-write-argb-row-start-2 : tie.Need-part-write-argb-row-start-2 Inv-loop μ-loop
 part-write-argb-row-start-2 c = omega (arith, room ((c .before)))
 
--- src/image.rt:41:13
 part-write-argb-row-end-2 : tie.Need-part-write-argb-row-end-2 Inv-loop μ-loop
 part-write-argb-row-end-2 c = omega (arith, room ((c .before)))
 
--- src/image.rt:42:21
 add-write-argb-row-2 : tie.Need-add-write-argb-row-2 Inv-loop μ-loop
 add-write-argb-row-2 c = omega (arith, room ((c .before .before)))
 
--- src/image.rt:42:21
 add-write-argb-row-3 : tie.Need-add-write-argb-row-3 Inv-loop μ-loop
 add-write-argb-row-3 c = omega (arith, room ((c .before .before)))
 
--- src/image.rt:42:13
 sub-write-argb-row-3 : tie.Need-sub-write-argb-row-3 Inv-loop μ-loop
 sub-write-argb-row-3 c = omega (arith, room ((c .before .before)))
 
--- src/image.rt:42:13
 part-write-argb-row-start-3 : tie.Need-part-write-argb-row-start-3 Inv-loop μ-loop
 part-write-argb-row-start-3 c = omega (arith, room ((c .before .before)))
 
--- src/image.rt:42:13
 part-write-argb-row-end-3 : tie.Need-part-write-argb-row-end-3 Inv-loop μ-loop
 part-write-argb-row-end-3 c = omega (arith, room ((c .before .before)))
 
--- src/image.rt:43:31
 mul-write-argb-row : tie.Need-mul-write-argb-row Inv-loop μ-loop
 mul-write-argb-row c = omega (arith, fits ((c .before .before .before)))
 
--- src/image.rt:43:24
 mul-write-argb-row-2 : tie.Need-mul-write-argb-row-2 Inv-loop μ-loop
 mul-write-argb-row-2 c = omega (arith, fits ((c .before .before .before)))
 
--- src/image.rt:43:13
 sub-write-argb-row-4 : tie.Need-sub-write-argb-row-4 Inv-loop μ-loop
 sub-write-argb-row-4 c = omega (arith, fits ((c .before .before .before)))
 
--- src/image.rt:43:13
 part-write-argb-row-start-4 : tie.Need-part-write-argb-row-start-4 Inv-loop μ-loop
 part-write-argb-row-start-4 c = omega (arith, fits ((c .before .before .before)))
 
--- src/image.rt:43:13
 part-write-argb-row-end-4 : tie.Need-part-write-argb-row-end-4 Inv-loop μ-loop
 part-write-argb-row-end-4 c = omega (arith, fits ((c .before .before .before)))
 
--- src/image.rt:39:9
 write-argb-row-requires : tie.Need-write-argb-row-requires Inv-loop μ-loop
 write-argb-row-requires c κs =
     let a = c .before .before .before .before .before .before .before .before .args in
@@ -126,15 +104,12 @@ write-argb-row-requires c κs =
       tail-room (l .image) (l .row * (3 * a .width)) (3 * a .width) (fits ((c .before .before .before .before))),
     )
 
--- src/image.rt:46:15
 add-row : tie.Need-add-row Inv-loop μ-loop
 add-row c = omega arith
 
--- src/image.rt:37:5
 loop-less : tie.Need-loop-less Inv-loop μ-loop
 loop-less c = omega arith
 
--- src/image.rt:37:5
 loop-again : tie.Need-loop-again Inv-loop μ-loop
 loop-again c =
     let a = c .before .before .before .before .before .before .before .before .before .before .before .args in
@@ -142,11 +117,9 @@ loop-again c =
     let w = c .before .before .write-argb-row in
     (omega arith, image-turn _ (l .image) _ _ (l .row) (a .width) _ (l .inv .1) (w .ensures) (argb-row-is (a .planes .now) (a .width) (a .height) (l .row) _ _ _ refl refl refl) (w .kept .1 .1 .1 .0))
 
--- src/image.rt:26:1
 same-length : tie.Need-same-length Inv-loop μ-loop
 same-length c = omega arith
 
--- src/image.rt:26:1
 returns : tie.Need-returns Inv-loop μ-loop
 returns c = image-full _ _ _ _ _ _ (c .before .loop .inv .1) (omega arith)
 

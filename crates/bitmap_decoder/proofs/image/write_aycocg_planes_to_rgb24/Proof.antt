@@ -1,20 +1,17 @@
-use Prim.Native.Nat.{ℕ, _+_, _-_, _*_, _≤_}
-use mathlib.Core.Path.{refl, sym, ap, _∙_}
+-- `write_aycocg_planes_to_rgb24`: a turn of its loop is a row; the invariant is `ImageHead` of Images.antt, `Rooms` its room.
+-- Assumes nothing.
+use Rattle.rle_format.proofs.Slice.{tail-room}
+use Prim.Native.Nat.{_+_, _-_, _*_, _≤_}
+use mathlib.Core.Path.{refl}
 use native.Mathlib.Omega.{arith}
 use borrow.Author.Needs.{needs}
 use lib.ListN.{length}
 use Rattle.rle_format.proofs.Plane.{area-most}
 use Rattle.bitmap_format.specs.declared.ColorPlaneDefinition.the-variants.{AYCoCg}
-use Rattle.bitmap_format.specs.Planes.{chromaSide}
 use Rattle.bitmap_format.specs.Image.{imageRow}
-use Rattle.bitmap_decoder.proofs.Images.{Rooms, rooms, Areas, areas, image-room, tail-room, aycocg-row-is, ImageHead, image-first, image-turn, image-full}
+use Rattle.bitmap_decoder.proofs.Images.{Rooms, rooms, Areas, areas, image-room, aycocg-row-is, ImageHead, image-first, image-turn, image-full}
 use Rattle.bitmap_decoder.proofs.image.write_aycocg_planes_to_rgb24.Statement.{statement}
 use Rattle.bitmap_decoder.proofs.image.write_aycocg_planes_to_rgb24.Tie as tie
-use Rattle.bitmap_decoder.proofs.image.write_aycocg_planes_to_rgb24.Reads as reads
-use Rattle.bitmap_decoder.proofs.image.write_aycocg_planes_to_rgb24.Lts as lts
-use Rattle.bitmap_decoder.proofs.image.chroma_place.Reads as chroma-place-reads
-use Rattle.bitmap_decoder.proofs.row.write_aycocg_row.Reads as write-aycocg-row-reads
-use Rattle.bitmap_format.proofs.chroma_side.Reads as chroma-side-reads
 
 abbrev Inv-loop : tie.InvT-loop
 Inv-loop params planes image₀ width height second chroma-width third row₀ image row = (row ≤ height) × ImageHead image₀ image row width (imageRow (AYCoCg (params .«color_loss_level») (params .«chroma_subsampling»)) (params .alpha) width height planes)
@@ -40,109 +37,83 @@ fits c =
     let s = (c .before .before .before .before .before .before .before) in
     omega (arith, image-room (c .before .before .loop .row) (s .args .width) (s .args .height) (length (s .args .image .now)) (c .before .loop-test .taken) (s .pre .4), c .before .before .loop .inv .1 .len)
 
--- src/image.rt:61:18
 mul-second : tie.Need-mul-second Inv-loop μ-loop
 mul-second c =
     let s = (c .before .before) in
     omega (arith, area-most (s .args .width) (s .args .height) (s .pre .1) (s .pre .2))
 
--- src/image.rt:62:9
 chroma-side-requires : tie.Need-chroma-side-requires Inv-loop μ-loop
 chroma-side-requires c κs = search needs
 
--- src/image.rt:63:41
 chroma-side-requires-2 : tie.Need-chroma-side-requires-2 Inv-loop μ-loop
 chroma-side-requires-2 c κs = search needs
 
--- src/image.rt:63:26
 mul-third : tie.Need-mul-third Inv-loop μ-loop
 mul-third c = omega (arith, sizes c)
 
--- src/image.rt:63:17
 add-third : tie.Need-add-third Inv-loop μ-loop
 add-third c = omega (arith, sizes c)
 
--- src/image.rt:65:5
 loop-holds : tie.Need-loop-holds Inv-loop μ-loop
 loop-holds c = (omega arith, image-first _ _ _)
 
--- src/image.rt:66:22
 chroma-place-requires : tie.Need-chroma-place-requires Inv-loop μ-loop
 chroma-place-requires c κs = search needs
 
--- src/image.rt:66:22
 mul-chroma : tie.Need-mul-chroma Inv-loop μ-loop
 mul-chroma c = omega (arith, room c)
 
--- src/image.rt:69:21
 mul-write-aycocg-row : tie.Need-mul-write-aycocg-row Inv-loop μ-loop
 mul-write-aycocg-row c = omega (arith, room c)
 
--- src/image.rt:69:13
 sub-write-aycocg-row : tie.Need-sub-write-aycocg-row Inv-loop μ-loop
 sub-write-aycocg-row c = omega (arith, room c)
 
--- src/image.rt:69:13
 part-write-aycocg-row-start : tie.Need-part-write-aycocg-row-start Inv-loop μ-loop
 part-write-aycocg-row-start c = omega (arith, room c)
 
--- src/image.rt:69:13
 part-write-aycocg-row-end : tie.Need-part-write-aycocg-row-end Inv-loop μ-loop
 part-write-aycocg-row-end c = omega (arith, room c)
 
--- src/image.rt:70:21
 add-write-aycocg-row : tie.Need-add-write-aycocg-row Inv-loop μ-loop
 add-write-aycocg-row c = omega (arith, room ((c .before)))
 
--- src/image.rt:70:13
 sub-write-aycocg-row-2 : tie.Need-sub-write-aycocg-row-2 Inv-loop μ-loop
 sub-write-aycocg-row-2 c = omega (arith, room ((c .before)))
 
--- src/image.rt:70:13
 part-write-aycocg-row-start-2 : tie.Need-part-write-aycocg-row-start-2 Inv-loop μ-loop
 part-write-aycocg-row-start-2 c = omega (arith, room ((c .before)))
 
--- src/image.rt:70:13
 part-write-aycocg-row-end-2 : tie.Need-part-write-aycocg-row-end-2 Inv-loop μ-loop
 part-write-aycocg-row-end-2 c = omega (arith, room ((c .before)))
 
--- src/image.rt:71:21
 add-write-aycocg-row-2 : tie.Need-add-write-aycocg-row-2 Inv-loop μ-loop
 add-write-aycocg-row-2 c = omega (arith, room ((c .before .before)))
 
--- src/image.rt:71:13
 sub-write-aycocg-row-3 : tie.Need-sub-write-aycocg-row-3 Inv-loop μ-loop
 sub-write-aycocg-row-3 c = omega (arith, room ((c .before .before)))
 
--- src/image.rt:71:13
 part-write-aycocg-row-start-3 : tie.Need-part-write-aycocg-row-start-3 Inv-loop μ-loop
 part-write-aycocg-row-start-3 c = omega (arith, room ((c .before .before)))
 
--- src/image.rt:71:13
 part-write-aycocg-row-end-3 : tie.Need-part-write-aycocg-row-end-3 Inv-loop μ-loop
 part-write-aycocg-row-end-3 c = omega (arith, room ((c .before .before)))
 
--- src/image.rt:72:31
 mul-write-aycocg-row-2 : tie.Need-mul-write-aycocg-row-2 Inv-loop μ-loop
 mul-write-aycocg-row-2 c = omega (arith, fits ((c .before .before .before)))
 
--- src/image.rt:72:24
 mul-write-aycocg-row-3 : tie.Need-mul-write-aycocg-row-3 Inv-loop μ-loop
 mul-write-aycocg-row-3 c = omega (arith, fits ((c .before .before .before)))
 
--- src/image.rt:72:13
 sub-write-aycocg-row-4 : tie.Need-sub-write-aycocg-row-4 Inv-loop μ-loop
 sub-write-aycocg-row-4 c = omega (arith, fits ((c .before .before .before)))
 
--- src/image.rt:72:13
 part-write-aycocg-row-start-4 : tie.Need-part-write-aycocg-row-start-4 Inv-loop μ-loop
 part-write-aycocg-row-start-4 c = omega (arith, fits ((c .before .before .before)))
 
--- src/image.rt:72:13
 part-write-aycocg-row-end-4 : tie.Need-part-write-aycocg-row-end-4 Inv-loop μ-loop
 part-write-aycocg-row-end-4 c = omega (arith, fits ((c .before .before .before)))
 
--- src/image.rt:67:9
 write-aycocg-row-requires : tie.Need-write-aycocg-row-requires Inv-loop μ-loop
 write-aycocg-row-requires c κs =
     let s = (c .before .before .before .before .before .before .before .before .before .before .before) in
@@ -160,15 +131,12 @@ write-aycocg-row-requires c κs =
       tail-room (l .image) (l .row * (3 * a .width)) (3 * a .width) (fits ((c .before .before .before .before))),
     )
 
--- src/image.rt:75:15
 add-row : tie.Need-add-row Inv-loop μ-loop
 add-row c = omega arith
 
--- src/image.rt:65:5
 loop-less : tie.Need-loop-less Inv-loop μ-loop
 loop-less c = omega arith
 
--- src/image.rt:65:5
 loop-again : tie.Need-loop-again Inv-loop μ-loop
 loop-again c =
     let a = c .before .before .before .before .before .before .before .before .before .before .before .before .before .before .args in
@@ -180,11 +148,9 @@ loop-again c =
           (c .before .before .before .before .before .before .before .before .before .before .before .chroma-side .ensures) (c .before .before .before .before .before .before .before .before .before .before .chroma-side2 .ensures) (c .before .before .before .before .before .before .before .chroma-place .ensures) refl refl refl) (w .kept .1 .1 .1 .1 .0),
     )
 
--- src/image.rt:51:1
 same-length : tie.Need-same-length Inv-loop μ-loop
 same-length c = omega arith
 
--- src/image.rt:51:1
 returns : tie.Need-returns Inv-loop μ-loop
 returns c = image-full _ _ _ _ _ _ (c .before .loop .inv .1) (omega arith)
 

@@ -1,26 +1,20 @@
+-- `decompress_alpha`: one plane, or none. Assumes nothing.
 use Rattle.bitmap_decoder.proofs.Chains.{alpha-plane, alpha-none}
 use borrow.Author.Needs.{needs}
 use Rattle.bitmap_decoder.proofs.planes.decompress_alpha.Statement.{statement}
 use Rattle.bitmap_decoder.proofs.planes.decompress_alpha.Tie as tie
-use Rattle.bitmap_decoder.proofs.planes.decompress_alpha.Reads as reads
-use Rattle.bitmap_decoder.proofs.planes.decompress_alpha.Lts as lts
-use Rattle.bitmap_decoder.proofs.planes.decompress_next_plane.Reads as decompress-next-plane-reads
 
--- src/planes.rt:48:9
 decompress-next-plane-requires : tie.Need-decompress-next-plane-requires
 decompress-next-plane-requires c κs = search needs
 
--- src/planes.rt:48:9
 same-length : tie.Need-same-length
 same-length c = search needs
 
--- src/planes.rt:48:9
 returns : tie.Need-returns
 returns c =
     let d = c .before .before .decompress-next-plane in
     alpha-plane _ _ _ _ _ _ (d .result) (c .before .before .before .before .if1 .taken) (d .ensures)
 
--- src/planes.rt:37:1
 returns-2 : tie.Need-returns-2
 returns-2 c = alpha-none _ _ _ _ _ (c .if1 .left)
 

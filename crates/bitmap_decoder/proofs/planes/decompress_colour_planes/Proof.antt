@@ -1,5 +1,6 @@
+-- `decompress_colour_planes`: before each plane, what is left is what was to do (`PlanesHead` of bitmap_format's
+-- UnpackPlanes.antt). Assumes nothing.
 use Prim.Native.Nat.{_+_, _*_}
-use mathlib.Core.Path.{refl}
 use mathlib.Core.List.{[], _∷_}
 use native.Mathlib.Omega.{arith}
 use lib.ListN.{length}
@@ -11,10 +12,6 @@ use Rattle.bitmap_decoder.proofs.Chains.{onward, stopped, finished, col
 use borrow.Author.Needs.{needs}
 use Rattle.bitmap_decoder.proofs.planes.decompress_colour_planes.Statement.{statement}
 use Rattle.bitmap_decoder.proofs.planes.decompress_colour_planes.Tie as tie
-use Rattle.bitmap_decoder.proofs.planes.decompress_colour_planes.Reads as reads
-use Rattle.bitmap_decoder.proofs.planes.decompress_colour_planes.Lts as lts
-use Rattle.bitmap_decoder.proofs.planes.decompress_next_plane.Reads as decompress-next-plane-reads
-use Rattle.bitmap_format.proofs.chroma_side.Reads as chroma-side-reads
 
 -- the sizes of the planes
 sizes : (c : tie.After-chroma-side2) → Areas (c .before .before .before .before .args .width) (c .before .before .before .before .args .height) (c .before .chroma-side .result) (c .chroma-side2 .result) (length (c .before .before .before .before .args .work .now))
@@ -55,62 +52,49 @@ head3 c =
     onward _ _ (planeAt (c .before .before .before .before .before .before .before .before .before .before .before .before .before .before .chroma-side .result) (c .before .before .before .before .before .before .before .before .before .before .before .before .before .chroma-side2 .result) (a .width * a .height)) (a .body .now) (a .work .now) (c .before .before .before .before .before .before .before .before .before .before .before .decompress-next-plane .last .1 .1 .0) (d .last .1 .1 .0) (a .from) (c .before .before .before .before .before .before .before .first .given .0 .0) (d .result)
     (head2 ((c .before .before .before .before .before .before .before))) (d .ensures) (c .second .given .0 .0) (c .second .given .1) (d .kept .1 .1 .0)
 
--- src/planes.rt:66:16
 mul-full : tie.Need-mul-full
 mul-full c =
     let s = (c .before .before) in
     omega (arith, area-most (s .args .width) (s .args .height) (s .pre .1) (s .pre .2))
 
--- src/planes.rt:67:9
 chroma-side-requires : tie.Need-chroma-side-requires
 chroma-side-requires c κs = search needs
 
--- src/planes.rt:68:9
 chroma-side-requires-2 : tie.Need-chroma-side-requires-2
 chroma-side-requires-2 c κs = search needs
 
--- src/planes.rt:69:9
 decompress-next-plane-requires : tie.Need-decompress-next-plane-requires
 decompress-next-plane-requires c κs = search needs
 
--- src/planes.rt:70:24
 enum-known-first : tie.Need-enum-known-first
 enum-known-first c = search needs
 
--- src/planes.rt:71:9
 enum-told : tie.Need-enum-told
 enum-told c = search needs
 
--- src/planes.rt:71:9
 same-length : tie.Need-same-length
 same-length c = search needs
 
--- src/planes.rt:71:9
 returns : tie.Need-returns
 returns c =
     let a = c .before .before .before .before .before .before .before .before .before .before .args in
     let d = c .before .before .before .before .decompress-next-plane in
     stopped _ _ (planeAt (a .width) (a .height) 0) (a .body .now) (a .work .now) (a .work .now) (d .last .1 .1 .0) (a .from) (a .from) (d .result) (head1 ((c .before .before .before .before .before .before))) (d .ensures) (c .enum-told .given .0 .0) (c .enum-told .given .1)
 
--- src/planes.rt:73:9
 decompress-next-plane-requires-2 : tie.Need-decompress-next-plane-requires-2
 decompress-next-plane-requires-2 c κs =
     let h = head2 ((c .before .before)) in
     (h .low, omega (arith, h .len, sizes ((c .before .before .before .before .before .before .before .before))))
 
--- src/planes.rt:74:24
 enum-known-second : tie.Need-enum-known-second
 enum-known-second c = search needs
 
--- src/planes.rt:75:9
 enum-told-2 : tie.Need-enum-told-2
 enum-told-2 c = search needs
 
--- src/planes.rt:75:9
 same-length-2 : tie.Need-same-length-2
 same-length-2 c = search needs
 
--- src/planes.rt:75:9
 returns-2 : tie.Need-returns-2
 returns-2 c =
     let a = c .before .before .before .before .before .before .before .before .before .before .before .before .before .before .before .before .before .args in
@@ -118,25 +102,20 @@ returns-2 c =
     stopped _ _ (planeAt (c .before .before .before .before .before .before .before .before .before .before .before .before .before .before .chroma-side .result) (c .before .before .before .before .before .before .before .before .before .before .before .before .before .chroma-side2 .result) (a .width * a .height)) (a .body .now) (a .work .now) (c .before .before .before .before .before .before .before .before .before .before .before .decompress-next-plane .last .1 .1 .0) (d .last .1 .1 .0) (a .from) (c .before .before .before .before .before .before .before .first .given .0 .0) (d .result)
     (head2 ((c .before .before .before .before .before .before .before))) (d .ensures) (c .enum-told2 .given .0 .0) (c .enum-told2 .given .1)
 
--- src/planes.rt:77:25
 mul-offset : tie.Need-mul-offset
 mul-offset c = omega (arith, sizes ((c .before .before .before .before .before .before .before .before .before .before .before .before .before .before)))
 
--- src/planes.rt:77:18
 add-offset : tie.Need-add-offset
 add-offset c = omega (arith, sizes ((c .before .before .before .before .before .before .before .before .before .before .before .before .before .before)))
 
--- src/planes.rt:78:5
 decompress-next-plane-requires-3 : tie.Need-decompress-next-plane-requires-3
 decompress-next-plane-requires-3 c κs =
     let h = head3 ((c .before .before)) in
     (h .low, omega (arith, h .len, sizes ((c .before .before .before .before .before .before .before .before .before .before .before .before .before .before .before))))
 
--- src/planes.rt:54:1
 same-length-3 : tie.Need-same-length-3
 same-length-3 c = search needs
 
--- src/planes.rt:54:1
 returns-3 : tie.Need-returns-3
 returns-3 c =
     let a = c .before .before .before .before .before .before .before .before .before .before .before .before .before .before .before .before .before .before .before .before .before .before .args in

@@ -1,60 +1,47 @@
+-- `decompress_next_plane`: the plane unpacker's contract on the two parts that it is lent, as a write of the whole work area.
+-- Assumes nothing.
 use native.Mathlib.Omega.{arith}
 use Rattle.bitmap_decoder.proofs.Chains.{next-refused, next-read, next-within}
 use borrow.Author.Needs.{needs}
 use Rattle.bitmap_decoder.proofs.planes.decompress_next_plane.Statement.{statement}
 use Rattle.bitmap_decoder.proofs.planes.decompress_next_plane.Tie as tie
-use Rattle.bitmap_decoder.proofs.planes.decompress_next_plane.Reads as reads
-use Rattle.bitmap_decoder.proofs.planes.decompress_next_plane.Lts as lts
-use Rattle.rle_decoder.proofs.decompress_8bpp_plane.Reads as decompress-8bpp-plane-reads
 
--- src/planes.rt:29:40
 sub-decompress-8bpp-plane : tie.Need-sub-decompress-8bpp-plane
 sub-decompress-8bpp-plane c = search needs
 
--- src/planes.rt:29:40
 part-decompress-8bpp-plane-start : tie.Need-part-decompress-8bpp-plane-start
 part-decompress-8bpp-plane-start c = search needs
 
--- src/planes.rt:29:40
 part-decompress-8bpp-plane-end : tie.Need-part-decompress-8bpp-plane-end
 part-decompress-8bpp-plane-end c = search needs
 
--- src/planes.rt:29:53
 sub-decompress-8bpp-plane-2 : tie.Need-sub-decompress-8bpp-plane-2
 sub-decompress-8bpp-plane-2 c = search needs
 
--- src/planes.rt:29:53
 part-decompress-8bpp-plane-start-2 : tie.Need-part-decompress-8bpp-plane-start-2
 part-decompress-8bpp-plane-start-2 c = search needs
 
--- src/planes.rt:29:53
 part-decompress-8bpp-plane-end-2 : tie.Need-part-decompress-8bpp-plane-end-2
 part-decompress-8bpp-plane-end-2 c = search needs
 
--- src/planes.rt:29:9
 decompress-8bpp-plane-requires : tie.Need-decompress-8bpp-plane-requires
 decompress-8bpp-plane-requires c κs = search needs
 
--- src/planes.rt:30:24
 enum-known-answer : tie.Need-enum-known-answer
 enum-known-answer c = search needs
 
--- src/planes.rt:31:9
 enum-told : tie.Need-enum-told
 enum-told c = search needs
 
--- src/planes.rt:31:9
 same-length : tie.Need-same-length
 same-length c = search needs
 
--- src/planes.rt:31:9
 returns : tie.Need-returns
 returns c =
     let d = c .before .before .before .before .decompress-8bpp-plane in
     let a = c .before .before .before .before .before .before .before .before .before .args in
     next-refused (a .body .now) (a .work .now) (d .last .1 .0) (a .at) (a .offset) (a .width) (a .height) (d .result) (d .ensures .0) (d .ensures .1) (c .enum-told .given .0 .0) (c .enum-told .given .1)
 
--- src/planes.rt:33:20
 add-t10 : tie.Need-add-t10
 add-t10 c =
     let k = (c .before) in
@@ -63,11 +50,9 @@ add-t10 c =
     let a = s .args in
     omega (arith, next-within (a .body .now) (a .work .now) (d .last .1 .0) (a .at) (a .offset) (a .width) (a .height) (d .result) (d .ensures .0) (d .ensures .1) (k .answer .given .0 .0) (k .answer .given .1) (s .pre .0))
 
--- src/planes.rt:17:1
 same-length-2 : tie.Need-same-length-2
 same-length-2 c = search needs
 
--- src/planes.rt:17:1
 returns-2 : tie.Need-returns-2
 returns-2 c =
     let k = (c .before) in

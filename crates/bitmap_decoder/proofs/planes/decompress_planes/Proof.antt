@@ -1,3 +1,4 @@
+-- `decompress_planes`: the colour planes go on where alpha stopped (`planes-then`), unless that was refused. Assumes nothing.
 use mathlib.Core.Path.{sym, ap, _∙_}
 use native.Mathlib.Omega.{arith}
 use Rattle.rle_format.specs.Answer.{told}
@@ -6,39 +7,27 @@ use Rattle.bitmap_decoder.proofs.Chains.{alpha-refused, colours-then}
 use borrow.Author.Needs.{needs}
 use Rattle.bitmap_decoder.proofs.planes.decompress_planes.Statement.{statement}
 use Rattle.bitmap_decoder.proofs.planes.decompress_planes.Tie as tie
-use Rattle.bitmap_decoder.proofs.planes.decompress_planes.Reads as reads
-use Rattle.bitmap_decoder.proofs.planes.decompress_planes.Lts as lts
-use Rattle.bitmap_decoder.proofs.planes.decompress_alpha.Reads as decompress-alpha-reads
-use Rattle.bitmap_decoder.proofs.planes.decompress_colour_planes.Reads as decompress-colour-planes-reads
-use Rattle.bitmap_format.proofs.has_subsampled_chroma.Reads as has-subsampled-chroma-reads
 
--- src/planes.rt:93:9
 decompress-alpha-requires : tie.Need-decompress-alpha-requires
 decompress-alpha-requires c κs = search needs
 
--- src/planes.rt:94:24
 enum-known-alpha : tie.Need-enum-known-alpha
 enum-known-alpha c = search needs
 
--- src/planes.rt:95:9
 enum-told : tie.Need-enum-told
 enum-told c = search needs
 
--- src/planes.rt:95:9
 same-length : tie.Need-same-length
 same-length c = search needs
 
--- src/planes.rt:95:9
 returns : tie.Need-returns
 returns c =
     let d = c .before .before .before .before .decompress-alpha in
     alpha-refused _ _ _ _ _ _ (d .result) (d .ensures) (c .enum-told .given .0 .0) (c .enum-told .given .1)
 
--- src/planes.rt:98:9
 has-subsampled-chroma-requires : tie.Need-has-subsampled-chroma-requires
 has-subsampled-chroma-requires c κs = search needs
 
--- src/planes.rt:99:5
 decompress-colour-planes-requires : tie.Need-decompress-colour-planes-requires
 decompress-colour-planes-requires c κs =
     let s = (c .before .before .before .before .before .before .before .before .before .before .before) in
@@ -46,11 +35,9 @@ decompress-colour-planes-requires c κs =
     let k = c .before .before .before .alpha .given in
     (planes-within _ _ _ _ (sym (d .ensures .0) ∙ ap told (k .1)), s .pre .0, s .pre .1, rw (c .before .has-subsampled-chroma .ensures) (omega (arith, s .pre .2, d .kept .1 .1 .0)))
 
--- src/planes.rt:82:1
 same-length-2 : tie.Need-same-length-2
 same-length-2 c = search needs
 
--- src/planes.rt:82:1
 returns-2 : tie.Need-returns-2
 returns-2 c =
     let d = c .before .before .before .before .before .before .before .before .before .before .decompress-alpha in

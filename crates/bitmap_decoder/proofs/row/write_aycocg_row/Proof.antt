@@ -1,39 +1,30 @@
+-- `write_aycocg_row`: each branch by the function that it calls. Assumes nothing.
 use Rattle.bitmap_decoder.proofs.Writes.{halved, unhalved}
 use borrow.Author.Needs.{needs}
 use Rattle.bitmap_decoder.proofs.row.write_aycocg_row.Statement.{statement}
 use Rattle.bitmap_decoder.proofs.row.write_aycocg_row.Tie as tie
-use Rattle.bitmap_decoder.proofs.row.write_aycocg_row.Reads as reads
-use Rattle.bitmap_decoder.proofs.row.write_aycocg_row.Lts as lts
-use Rattle.bitmap_decoder.proofs.row.write_full_row.Reads as write-full-row-reads
-use Rattle.bitmap_decoder.proofs.row.write_subsampled_row.Reads as write-subsampled-row-reads
 
--- src/row.rt:125:9
 write-subsampled-row-requires : tie.Need-write-subsampled-row-requires
 write-subsampled-row-requires c κs =
     let s = (c .before .before .before .before .before .before) in
     let t = c .before .if1 .taken in
     (s .pre .0, s .pre .1, halved _ _ _ t (s .pre .2), halved _ _ _ t (s .pre .3), s .pre .4)
 
--- src/row.rt:126:9
 same-length : tie.Need-same-length
 same-length c = search needs
 
--- src/row.rt:126:9
 returns : tie.Need-returns
 returns c = rw (c .before .before .before .before .if1 .taken) (c .before .before .write-subsampled-row .ensures)
 
--- src/row.rt:128:5
 write-full-row-requires : tie.Need-write-full-row-requires
 write-full-row-requires c κs =
     let s = (c .before .before .before .before .before .before) in
     let t = c .before .if1 .left in
     (s .pre .0, s .pre .1, unhalved _ _ _ t (s .pre .2), unhalved _ _ _ t (s .pre .3), s .pre .4)
 
--- src/row.rt:113:1
 same-length-2 : tie.Need-same-length-2
 same-length-2 c = search needs
 
--- src/row.rt:113:1
 returns-2 : tie.Need-returns-2
 returns-2 c = rw (c .before .before .before .before .if1 .left) (c .before .before .write-full-row .ensures)
 

@@ -1,3 +1,4 @@
+-- `is_loss_wrong`: each return is a case of `lossWrong`. Assumes nothing.
 use mathlib.Core.Path.{sym, ap}
 use borrow.Author.Tests.{ne-eqb}
 use Rattle.bitmap_format.specs.Picture.{lossWrong}
@@ -5,28 +6,21 @@ use Rattle.bitmap_format.proofs.Picture.{loss-over}
 use borrow.Author.Needs.{needs}
 use Rattle.bitmap_decoder.proofs.tests.is_loss_wrong.Statement.{statement}
 use Rattle.bitmap_decoder.proofs.tests.is_loss_wrong.Tie as tie
-use Rattle.bitmap_decoder.proofs.tests.is_loss_wrong.Reads as reads
-use Rattle.bitmap_decoder.proofs.tests.is_loss_wrong.Lts as lts
 
--- src/tests.rt:20:39
 enum-told : tie.Need-enum-told
 enum-told c = search needs
 
--- src/tests.rt:22:13
 enum-known-definition : tie.Need-enum-known-definition
 enum-known-definition c = search needs
 
--- src/tests.rt:16:1
 returns : tie.Need-returns
 unfolding lossWrong
 returns c = sym (ap lossWrong (c .enum-told .given .1))
 
--- src/tests.rt:16:1
 returns-2 : tie.Need-returns-2
 unfolding lossWrong
 returns-2 c = rw (c .before .before .definition .given .1, c .if1 .taken)
 
--- src/tests.rt:16:1
 returns-3 : tie.Need-returns-3
 returns-3 c =
     let p = c .before .before .definition .given in

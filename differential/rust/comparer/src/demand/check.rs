@@ -6,7 +6,7 @@ use crate::demand::{Demand, Model};
 use crate::input::Input;
 use crate::lend::SIDES;
 use crate::planes::longest_packing;
-use crate::tally::Kind;
+use crate::tally::{Judge, Kind};
 use original::Answer;
 
 /// A plane inside document 01's domain and what the rules make of it.
@@ -61,7 +61,7 @@ impl Comparer {
     pub fn hold_cut(&mut self, kind: Kind, plane: &Plane<'_>, cut: Cut<'_>) -> Outcome {
         let (packing, taken) = (&plane.model.packing, cut.taken);
         let wanted = if taken == packing.len() { Answer::Done(taken) } else { Answer::Refused(7) };
-        self.tally.count(kind, &wanted);
+        self.tally.count(kind, Judge::Model, &wanted);
         self.hold_uncounted(plane, cut, wanted)
     }
 

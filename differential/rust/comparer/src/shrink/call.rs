@@ -6,7 +6,7 @@ use crate::case::Owned;
 /// Up to this side all lower ones are tried.
 const EVERY_SIDE: usize = 128;
 
-fn lower_side(side: usize) -> impl Iterator<Item = usize> {
+pub fn lower_side(side: usize) -> impl Iterator<Item = usize> {
     let every = if side <= EVERY_SIDE { side } else { 0 };
     (0..every).chain(lower(side).filter(move |_| every == 0))
 }

@@ -2,6 +2,9 @@
 
 #![allow(dead_code)]
 
+pub mod decoder;
+
+use comparer::picture::check::Pictures;
 use comparer::shrink::shrink;
 use comparer::{Case, Comparer, Difference, Function, Library, Outcome};
 
@@ -94,9 +97,10 @@ impl Call for RightPack {
     }
 }
 
-/// An unpacker and a packer without a mistake.
+/// An unpacker, a packer and a picture decoder without a mistake.
 pub const RIGHT_UNPACK: Function = exported::<RightUnpack>;
 pub const RIGHT_PACK: Function = exported::<RightPack>;
+pub const RIGHT_PICTURES: Pictures = decoder::pictures::<decoder::Right>();
 
 /// The order in which the refusals at entry are tested: zero, large, short.
 pub fn first_refused(tests: [(bool, i64); 3], order: [usize; 3]) -> i64 {

@@ -1,0 +1,203 @@
+//! Compares one picture with what must become of it.
+
+use crate::check::{answer_text, After, Comparer, Outcome};
+use crate::input::{Input, View};
+use crate::lend::{Loan, Side, SIDES};
+use crate::picture::{OwnedPicture, Picture, Sizes};
+use crate::tally::{Judge, Kind};
+use crate::Difference;
+use original::Answer;
+
+/// A picture decoder as a library has it: RLE, alpha, definition, loss level, subsampling; body, work area, image; width,
+/// height; bytes of the image, or minus the refusal's number.
+pub type Decode = unsafe extern "C" fn(
+    bool,
+    bool,
+    u8,
+    u8,
+    bool,
+    *const u8,
+    usize,
+    *mut u8,
+    usize,
+    *mut u8,
+    usize,
+    usize,
+    usize,
+) -> i64;
+
+/// The length of the work area: RLE, definition, subsampling, width, height.
+pub type WorkSize = unsafe extern "C" fn(bool, u8, bool, usize, usize) -> usize;
+
+/// The length of the image: width, height.
+pub type ImageSize = unsafe extern "C" fn(usize, usize) -> usize;
+
+/// What a library has for pictures.
+#[derive(Clone, Copy)]
+pub struct Pictures {
+    pub decode: Decode,
+    pub work_size: WorkSize,
+    pub image_size: ImageSize,
+}
+
+/// The two slices that a decoder writes to.
+#[derive(Default)]
+struct Written {
+    work: Vec<u8>,
+    image: Vec<u8>,
+}
+
+impl Written {
+    fn after(&self) -> After {
+        After(vec![("work area", self.work.clone()), ("image", self.image.clone())])
+    }
+}
+
+/// What they must hold after a call, and what they hold.
+#[derive(Default)]
+pub(crate) struct Afters {
+    wanted: Written,
+    got: Written,
+    /// The image that the Rust makes.
+    made: Vec<u8>,
+}
+
+impl Afters {
+    /// Asks the Rust. It gets the whole work area and may give back a shorter one, behind which nothing has changed; its image
+    /// is what it appends, and the rest of ours is as it was.
+    fn ask_rust(&mut self, case: Picture<'_>) -> Answer {
+        self.made.clear();
+        let answer = case.by_rust(&mut self.wanted.work, &mut self.made).expect("a form that the Rust has");
+        let kept = self.wanted.work.len();
+        self.wanted.work.extend_from_slice(case.work.get(kept..).unwrap_or(&[]));
+        self.wanted.image.clear();
+        self.wanted.image.extend_from_slice(&self.made);
+        self.wanted.image.extend_from_slice(case.image.get(self.made.len()..).unwrap_or(&[]));
+        answer
+    }
+
+    /// What differs, if anything, once it is known whether the answers are the same.
+    fn fault(&self, same_answer: bool) -> Option<String> {
+        if !same_answer {
+            Some("the answer".to_owned())
+        } else if self.wanted.image != self.got.image {
+            Some("the image".to_owned())
+        } else if self.wanted.work != self.got.work {
+            Some("the work area".to_owned())
+        } else {
+            None
+        }
+    }
+}
+
+impl Comparer {
+    /// Compares a picture and counts it.
+    pub fn compare_picture(&mut self, kind: Kind, case: Picture<'_>) -> Outcome {
+        self.compare_picture_at(kind, case, &SIDES)
+    }
+
+    /// The same with the slices at these sides of their pages only, where both would take too long.
+    pub fn compare_picture_at(&mut self, kind: Kind, case: Picture<'_>, sides: &[Side]) -> Outcome {
+        let judge = Judge::rust_if(case.refused_outside().is_none());
+        let wanted = self.ask_picture(case);
+        self.tally.count(kind, judge, &wanted);
+        self.hold_picture(case, wanted, sides)
+    }
+
+    pub(crate) fn look_at_picture(&mut self, case: &OwnedPicture) -> Outcome {
+        let wanted = self.ask_picture(case.view());
+        self.hold_picture(case.view(), wanted, &SIDES)
+    }
+
+    /// What must be answered; `afters.wanted` gets what the slices must hold.
+    fn ask_picture(&mut self, case: Picture<'_>) -> Answer {
+        let wanted = &mut self.afters.wanted;
+        wanted.work.clear();
+        wanted.work.extend_from_slice(case.work);
+        match case.refused_outside() {
+            None => self.afters.ask_rust(case),
+            Some(number) => {
+                wanted.image.clear();
+                wanted.image.extend_from_slice(case.image);
+                Answer::Refused(number)
+            }
+        }
+    }
+
+    fn hold_picture(&mut self, case: Picture<'_>, wanted: Answer, sides: &[Side]) -> Outcome {
+        for &side in sides {
+            let (got, harm) = self.call_decoder(case, side);
+            if let Some(reason) = harm.or_else(|| self.afters.fault(wanted.number() == Some(got))) {
+                return Err(Box::new(Difference {
+                    case: Input::Picture(case.to_owned()),
+                    reason,
+                    wanted,
+                    wanted_after: self.afters.wanted.after(),
+                    whose: "the library",
+                    got: answer_text(got),
+                    got_after: self.afters.got.after(),
+                }));
+            }
+        }
+        Ok(())
+    }
+
+    fn call_decoder(&mut self, case: Picture<'_>, side: Side) -> (i64, Option<String>) {
+        let Picture { width, height, form, body, work, image } = case;
+        let decode = self.library.pictures.decode;
+        let loans = [
+            Loan::read("body", body),
+            Loan::written("work area", work, &mut self.afters.got.work),
+            Loan::written("image", image, &mut self.afters.got.image),
+        ];
+        let [body_len, work_len, image_len] = [body.len(), work.len(), image.len()];
+        // SAFETY: all three are lent for this call. That it keeps to them is what is tested.
+        self.lender.call(View::Picture(case), side, loans, |[body, work, image]| unsafe {
+            decode(
+                form.rle,
+                form.alpha,
+                form.definition,
+                form.level,
+                form.subsampled,
+                body,
+                body_len,
+                work,
+                work_len,
+                image,
+                image_len,
+                width,
+                height,
+            )
+        })
+    }
+
+    /// Compares what both sizes are said to be, and counts it.
+    pub fn compare_sizes(&mut self, kind: Kind, case: Sizes) -> Outcome {
+        self.tally.count(kind, Judge::Document, &Answer::Done(case.work()));
+        self.look_at_sizes(&case)
+    }
+
+    pub(crate) fn look_at_sizes(&mut self, case: &Sizes) -> Outcome {
+        let Pictures { work_size, image_size, .. } = self.library.pictures;
+        let Sizes { width, height, rle, definition, subsampled } = *case;
+        // SAFETY: nothing is lent.
+        let (work, image) =
+            unsafe { (work_size(rle, definition, subsampled, width, height), image_size(width, height)) };
+        let of_work = ("the size of the work area", case.work(), work);
+        let of_image = ("the size of the image", case.image(), image);
+        for (name, wanted, got) in [of_work, of_image] {
+            if wanted != got {
+                return Err(Box::new(Difference {
+                    case: Input::Sizes(*case),
+                    reason: name.to_owned(),
+                    wanted: Answer::Done(wanted),
+                    wanted_after: After(Vec::new()),
+                    whose: "the library",
+                    got: format!("{got} bytes"),
+                    got_after: After(Vec::new()),
+                }));
+            }
+        }
+        Ok(())
+    }
+}

@@ -1,0 +1,157 @@
+//! The planes of pictures, the bodies made of them, and what the work area and the image hold before a call.
+
+use crate::case::MAX_SIDE;
+use crate::check::{Comparer, Outcome};
+use crate::picture::{Form, OwnedPicture, Picture};
+use crate::planes::{self, Earlier, Look, LOOKS};
+use crate::rng::Rng;
+use crate::tally::Kind;
+
+/// The planes of a picture in the order of its body.
+#[derive(Clone)]
+pub struct Planes {
+    pub alpha: Option<Vec<u8>>,
+    pub colours: [Vec<u8>; 3],
+}
+
+impl Planes {
+    /// Planes of looks of their own.
+    pub fn random(rng: &mut Rng, form: Form, width: usize, height: usize) -> Planes {
+        Planes::with_looks(rng, form, (width, height), &LOOKS)
+    }
+
+    /// Planes each of which has one of these looks.
+    pub fn with_looks(rng: &mut Rng, form: Form, (width, height): (usize, usize), looks: &[Look]) -> Planes {
+        let (chroma_width, chroma_height) = form.chroma_sides(width, height);
+        let mut plane = |width, height| {
+            let look = *rng.pick(looks);
+            planes::samples(rng, look, width, height)
+        };
+        Planes {
+            alpha: form.alpha.then(|| plane(width, height)),
+            colours: [plane(width, height), plane(chroma_width, chroma_height), plane(chroma_width, chroma_height)],
+        }
+    }
+
+    /// The body that these make.
+    pub fn body(&self, form: Form, width: usize, height: usize) -> Vec<u8> {
+        self.bodies(form, width, height).concat()
+    }
+
+    /// The part of the body that each plane makes, packed by the Rust if it is RLE.
+    pub fn bodies(&self, form: Form, width: usize, height: usize) -> Vec<Vec<u8>> {
+        let packed = |(plane, (width, height)): (&[u8], (usize, usize))| match form.rle {
+            true => original::pack(plane, width, height).expect("a whole plane with room"),
+            false => plane.to_vec(),
+        };
+        self.with_sides(form, width, height).map(packed).collect()
+    }
+
+    fn with_sides(
+        &self,
+        form: Form,
+        width: usize,
+        height: usize,
+    ) -> impl Iterator<Item = (&[u8], (usize, usize))> + '_ {
+        let [first, second, third] = &self.colours;
+        let full = self.alpha.iter().chain([first]).map(move |plane| (&plane[..], (width, height)));
+        full.chain([second, third].map(|plane| (&plane[..], form.chroma_sides(width, height))))
+    }
+
+    /// The planes of a case whose body is whole, and what follows them in the body.
+    pub fn of(case: &OwnedPicture) -> Option<(Planes, Vec<u8>)> {
+        let (width, height, form) = (case.width, case.height, case.form);
+        let sides = 1..=MAX_SIDE;
+        if !sides.contains(&width) || !sides.contains(&height) {
+            return None;
+        }
+        let mut rest = &case.body[..];
+        let mut next = |(width, height)| {
+            let (plane, read) = first_plane(rest, form.rle, width, height)?;
+            rest = &rest[read..];
+            Some(plane)
+        };
+        let alpha = if form.alpha { Some(next((width, height))?) } else { None };
+        let chroma = form.chroma_sides(width, height);
+        let colours = [next((width, height))?, next(chroma)?, next(chroma)?];
+        Some((Planes { alpha, colours }, rest.to_vec()))
+    }
+}
+
+/// The plane that a body begins with, if it is whole, and how many bytes it takes.
+fn first_plane(body: &[u8], rle: bool, width: usize, height: usize) -> Option<(Vec<u8>, usize)> {
+    let samples = width * height;
+    if !rle {
+        return Some((body.get(..samples)?.to_vec(), samples));
+    }
+    let mut plane = vec![0; samples];
+    let read = original::unpack(body, &mut plane, width, height).number()?;
+    Some((plane, usize::try_from(read).ok()?))
+}
+
+/// What is handed over of a picture: its sides, its form and its body.
+#[derive(Clone, Copy)]
+pub struct Sent<'a> {
+    pub width: usize,
+    pub height: usize,
+    pub form: Form,
+    pub body: &'a [u8],
+}
+
+impl<'a> Sent<'a> {
+    /// The lengths that the work area and the image need. The sides are inside the domain.
+    pub fn needs(&self) -> (usize, usize) {
+        (self.form.work_len(self.width, self.height), 3 * self.width * self.height)
+    }
+
+    /// The same with another body.
+    pub fn with_body<'b>(&self, body: &'b [u8]) -> Sent<'b> {
+        Sent { width: self.width, height: self.height, form: self.form, body }
+    }
+}
+
+/// What work areas and images hold before a call: never one constant, and different from call to call.
+pub struct Befores {
+    work: Earlier,
+    image: Earlier,
+}
+
+impl Befores {
+    pub fn new() -> Self {
+        let mut image = Earlier::new();
+        // A step ahead of the other, or both would hold the same.
+        image.bytes(1);
+        Befores { work: Earlier::new(), image }
+    }
+
+    /// Compares a picture whose work area and image have these lengths.
+    pub fn compare(
+        &mut self,
+        comparer: &mut Comparer,
+        kind: Kind,
+        sent: Sent<'_>,
+        (work, image): (usize, usize),
+    ) -> Outcome {
+        let Sent { width, height, form, body } = sent;
+        let (work, image) = (self.work.bytes(work), self.image.bytes(image));
+        comparer.compare_picture(kind, Picture { width, height, form, body, work, image })
+    }
+
+    /// The same with slices that have what they need, or more of each by these.
+    pub fn compare_longer(
+        &mut self,
+        comparer: &mut Comparer,
+        kind: Kind,
+        sent: Sent<'_>,
+        (work, image): (usize, usize),
+    ) -> Outcome {
+        let needs = sent.needs();
+        self.compare(comparer, kind, sent, (needs.0 + work, needs.1 + image))
+    }
+}
+
+impl Default for Befores {
+    fn default() -> Self {
+        Self::new()
+    }
+}

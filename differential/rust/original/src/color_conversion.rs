@@ -1,0 +1,8 @@
+//! Stands in for the file of this name, of which the picture decoder uses the struct alone; the rest of the file leans on
+//! crates that are not at hand.
+
+pub(crate) struct Rgb {
+    pub r: u8,
+    pub g: u8,
+    pub b: u8,
+}

@@ -1,0 +1,88 @@
+//! The picture decoder, from behind the parser of the header byte.
+
+use crate::rdp6::bitmap_stream::decoder::{init_and_decode, BitmapDecodeError};
+use crate::{panics, Answer};
+use ironrdp_pdu::bitmap::rdp6::{BitmapStream, BitmapStreamHeader, ColorPlaneDefinition};
+
+/// What the colour planes are.
+#[derive(Clone, Copy, Debug, PartialEq, Eq)]
+pub enum Definition {
+    Argb,
+    AYCoCg { loss_level: u8, subsampled: bool },
+}
+
+/// What the header says.
+#[derive(Clone, Copy, Debug, PartialEq, Eq)]
+pub struct Header {
+    pub rle: bool,
+    pub alpha: bool,
+    pub definition: Definition,
+}
+
+impl Header {
+    fn parsed(self) -> BitmapStreamHeader {
+        let color_plane_definition = match self.definition {
+            Definition::Argb => ColorPlaneDefinition::Argb,
+            Definition::AYCoCg { loss_level, subsampled } => {
+                ColorPlaneDefinition::AYCoCg { color_loss_level: loss_level, use_chroma_subsampling: subsampled }
+            }
+        };
+        BitmapStreamHeader { enable_rle_compression: self.rle, use_alpha: self.alpha, color_plane_definition }
+    }
+}
+
+/// `BitmapStreamDecoderImpl::init` and then `decode`. The image is appended to what `image` holds; an RLE picture makes `work`
+/// as long as its colour planes, whatever its length was. Both may have been written to after an error or a panic too.
+pub fn decode(
+    header: Header,
+    body: &[u8],
+    work: &mut Vec<u8>,
+    image: &mut Vec<u8>,
+    width: usize,
+    height: usize,
+) -> Answer {
+    let earlier = image.len();
+    let bitmap = BitmapStream::new(header.parsed(), body);
+    match panics::caught(|| init_and_decode(bitmap, width, height, image, work)) {
+        Ok(Ok(())) => Answer::Done(image.len() - earlier),
+        Ok(Err(BitmapDecodeError::InvalidUncompressedDataSize)) => Answer::Refused(4),
+        Ok(Err(BitmapDecodeError::Rle(error))) => Answer::of(error),
+        Ok(Err(BitmapDecodeError::Decode(_))) => unreachable!("nothing is parsed"),
+        Err(place) => Answer::Panic(place),
+    }
+}
+
+#[cfg(test)]
+mod tests {
+    use super::{decode, Definition, Header};
+    use crate::Answer;
+
+    const ARGB: Definition = Definition::Argb;
+
+    #[test]
+    fn the_image_is_appended_and_the_work_area_cut_to_the_planes() {
+        let header = Header { rle: true, alpha: false, definition: ARGB };
+        let (mut work, mut image) = (vec![0xEE; 5], vec![0xDD]);
+        let answer = decode(header, &[0x10, 1, 0x10, 2, 0x10, 3], &mut work, &mut image, 1, 1);
+        assert_eq!(answer, Answer::Done(3));
+        assert_eq!((work, image), (vec![1, 2, 3], vec![0xDD, 1, 2, 3]));
+    }
+
+    #[test]
+    fn a_refused_plane_leaves_those_before_it() {
+        let header = Header { rle: true, alpha: true, definition: ARGB };
+        let (mut work, mut image) = (vec![0xEE; 6], vec![]);
+        let answer = decode(header, &[0x20, 1, 2, 0x10, 3, 0, 0, 0], &mut work, &mut image, 2, 1);
+        assert_eq!(answer, Answer::Refused(8));
+        assert_eq!((work, image), (vec![3, 2, 0xEE, 0xEE, 0xEE, 0xEE], vec![]));
+    }
+
+    #[test]
+    fn a_raw_picture_leaves_the_work_area_alone() {
+        let definition = Definition::AYCoCg { loss_level: 2, subsampled: false };
+        let header = Header { rle: false, alpha: true, definition };
+        let (mut work, mut image) = (vec![0xEE; 5], vec![]);
+        assert_eq!(decode(header, &[0xFF, 100, 0x40, 0], &mut work, &mut image, 1, 1), Answer::Done(3));
+        assert_eq!((work, image), (vec![0xEE; 5], vec![0, 100, 228]));
+    }
+}

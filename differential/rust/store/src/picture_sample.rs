@@ -1,0 +1,168 @@
+//! Which pictures are stored: small ones of all forms, whole, cut and damaged.
+
+use crate::pictures::Pictures;
+use crate::BEFORE;
+use comparer::picture::examples::EXAMPLES;
+use comparer::picture::refused::{few_forms, FLAGS};
+use comparer::picture::{Form, OwnedPicture, Planes};
+use comparer::planes::{self, segment_starts, Look, Making, LOOKS, WIDTHS};
+use comparer::Rng;
+
+/// Every part in turn, each with numbers of its own, so that a change in one leaves the others as they are.
+pub fn keep_all(stored: &mut Pictures) {
+    examples(stored);
+    every_form(stored, &mut Rng::new(1));
+    small_sides(stored, &mut Rng::new(2));
+    telling_colours(stored, &mut Rng::new(3));
+    body_lengths(stored, &mut Rng::new(4));
+    cut_bodies(stored, &mut Rng::new(5));
+    damaged_bodies(stored, &mut Rng::new(6));
+    made_bodies(stored, &mut Rng::new(7));
+    wider(stored, &mut Rng::new(8));
+    refused_planes(stored, &mut Rng::new(9));
+}
+
+/// Document 01's examples and the like, as far as they are inside the domain, on slices as all cases here have them.
+fn examples(stored: &mut Pictures) {
+    let cases = EXAMPLES.iter().map(|example| OwnedPicture::parse(example.0).expect("the table's own text"));
+    for mut case in cases.filter(|case| case.view().refused_outside().is_none()) {
+        case.work.fill(BEFORE);
+        case.image.fill(BEFORE);
+        stored.keep_case(&case);
+    }
+}
+
+fn random_level(rng: &mut Rng) -> u8 {
+    rng.within(1, 7) as u8
+}
+
+/// The forms of one picture, the level of AYCoCg chosen. ARGB is also said with a level and subsampling, which must not matter.
+fn forms(rng: &mut Rng) -> Vec<Form> {
+    let mut forms: Vec<Form> = few_forms().collect();
+    for form in &mut forms {
+        form.level = random_level(rng);
+        form.subsampled |= form.definition == 0 && rng.once_in(2);
+    }
+    forms
+}
+
+/// Every flag, definition, level and subsampling.
+fn every_form(stored: &mut Pictures, rng: &mut Rng) {
+    for (rle, alpha) in FLAGS {
+        let levels = (1..=7).flat_map(|level| [false, true].map(|sub| Form::aycocg(rle, alpha, level, sub)));
+        for form in levels.chain([Form::argb(rle, alpha)]) {
+            for (width, height) in [(1, 1), (2, 2), (3, 3), (4, 1), (1, 5), (5, 4)] {
+                let body = Planes::random(rng, form, width, height).body(form, width, height);
+                stored.keep_somehow(form, (width, height), &body);
+            }
+        }
+    }
+}
+
+/// All sides of 1 to 6.
+fn small_sides(stored: &mut Pictures, rng: &mut Rng) {
+    for (width, height) in (1..=6).flat_map(|width| (1..=6).map(move |height| (width, height))) {
+        for form in forms(rng) {
+            let body = Planes::random(rng, form, width, height).body(form, width, height);
+            stored.keep_somehow(form, (width, height), &body);
+        }
+    }
+}
+
+/// Raw rows of samples around which the colour rule changes.
+fn telling_colours(stored: &mut Pictures, rng: &mut Rng) {
+    const SAMPLES: [u8; 16] = [0, 1, 2, 31, 32, 63, 64, 65, 127, 128, 129, 191, 192, 193, 254, 255];
+    for level in 1..=7 {
+        for alpha in [false, true] {
+            for _ in 0..8 {
+                let form = Form::aycocg(false, alpha, level, false);
+                let body: Vec<u8> = (0..form.least_body(16, 1)).map(|_| *rng.pick(&SAMPLES)).collect();
+                stored.keep_somehow(form, (16, 1), &body);
+            }
+        }
+    }
+}
+
+/// Bodies around their least size and around their end, and with bytes following.
+fn body_lengths(stored: &mut Pictures, rng: &mut Rng) {
+    for (width, height) in [(1, 1), (3, 2), (2, 5), (48, 1)] {
+        for form in forms(rng) {
+            let mut body = Planes::with_looks(rng, form, (width, height), &[Look::Runs]).body(form, width, height);
+            let (least, whole) = (form.least_body(width, height), body.len());
+            body.extend(rng.bytes(9));
+            for end in [0, least - 1, least, whole - 1, whole, whole + 1, whole + 9] {
+                stored.keep_somehow(form, (width, height), &body[..end]);
+            }
+        }
+    }
+}
+
+/// RLE bodies cut at every place.
+fn cut_bodies(stored: &mut Pictures, rng: &mut Rng) {
+    for (width, height) in [(1, 1), (2, 2), (3, 2), (5, 1), (17, 1)] {
+        for form in forms(rng).into_iter().filter(|form| form.rle) {
+            let look = *rng.pick(&[Look::FewValues, Look::Noise]);
+            let body = Planes::with_looks(rng, form, (width, height), &[look]).body(form, width, height);
+            for end in 0..=body.len() {
+                stored.keep_somehow(form, (width, height), &body[..end]);
+            }
+        }
+    }
+}
+
+/// RLE bodies with one to three bytes changed.
+fn damaged_bodies(stored: &mut Pictures, rng: &mut Rng) {
+    for _ in 0..60 {
+        for form in forms(rng).into_iter().filter(|form| form.rle) {
+            let (width, height) = (rng.within(1, 9), rng.within(1, 4));
+            let mut body = Planes::random(rng, form, width, height).body(form, width, height);
+            for _ in 0..rng.within(1, 3) {
+                let at = rng.below(body.len());
+                body[at] = *rng.pick(&[0, 0x10, 0x20, 0x03, body[at] ^ 1, body[at].wrapping_add(16), 0xFF]);
+            }
+            stored.keep_somehow(form, (width, height), &body);
+        }
+    }
+}
+
+/// RLE bodies that no encoder here writes.
+fn made_bodies(stored: &mut Pictures, rng: &mut Rng) {
+    for at in 0..25 {
+        for form in forms(rng).into_iter().filter(|form| form.rle) {
+            let (width, height) = (rng.within(1, 12), rng.within(1, 4));
+            let making = Making { opening_runs: at % 2 == 0, wrong_once_in: if at % 3 == 0 { 20 } else { usize::MAX } };
+            let (full, chroma) = ((width, height), form.chroma_sides(width, height));
+            let planes = [full, full, chroma, chroma].into_iter().skip(usize::from(!form.alpha));
+            let body: Vec<u8> = planes.flat_map(|sides| planes::made_body(rng, making, sides.0, sides.1)).collect();
+            stored.keep_somehow(form, (width, height), &body);
+        }
+    }
+}
+
+/// Widths around which a segment's counts change, of looks that take few characters.
+fn wider(stored: &mut Pictures, rng: &mut Rng) {
+    for width in WIDTHS {
+        for form in forms(rng) {
+            let height = rng.within(1, 2);
+            let looks = if width < 20 { &LOOKS[..] } else { &[Look::Runs, Look::FlatPage] };
+            let body = Planes::with_looks(rng, form, (width, height), looks).body(form, width, height);
+            stored.keep_somehow(form, (width, height), &body);
+        }
+    }
+}
+
+/// Each plane in turn refused: by control byte 0, by a segment that passes the width, at its start and at its last row's.
+fn refused_planes(stored: &mut Pictures, rng: &mut Rng) {
+    let (width, height) = (4, 2);
+    for form in forms(rng).into_iter().filter(|form| form.rle) {
+        let bodies = Planes::with_looks(rng, form, (width, height), &[Look::Noise]).bodies(form, width, height);
+        for plane in 0..bodies.len() {
+            let last_row = segment_starts(&bodies[plane]).pop().unwrap_or(0);
+            for (at, control) in [(0, 0x00), (0, 0x0F), (last_row, 0x00), (last_row, 0xF2)] {
+                let mut wrong = bodies.clone();
+                wrong[plane][at] = control;
+                stored.keep_somehow(form, (width, height), &wrong.concat());
+            }
+        }
+    }
+}
