@@ -1,7 +1,7 @@
 -- What the colour rule makes of a chroma byte, as integers with bounds.
 use Prim.Native.Nat.{ℕ, _-_, _*_, _%_, _^_, _<_, _≤_}
 use mathlib.Core.Bool.{Bool, true, false}
-use mathlib.Core.Path.{_≡_, refl}
+use mathlib.Core.Path.{_≡_, refl, ap}
 use native.Mathlib.Omega.{arith}
 use native.Mathlib.Nat.{mod-lt}
 use lib.Dec.{ltb}
@@ -11,13 +11,15 @@ use Rattle.rle_format.specs.Choice.{choose}
 use Rattle.bitmap_format.specs.Colour.{signedByte, chroma}
 use Rattle.bitmap_format.proofs.Integers.{Between, whole, difference}
 
-pub chroma-low : (level byte : ℕ) → byte * 2 ^ (level - 1) % 256 < 128 → chroma level byte ≡ pos (byte * 2 ^ (level - 1) % 256)
-unfolding chroma signedByte
-chroma-low level byte h = simp (lt-ltb _ _ h)
-
 pub chroma-high : (level byte : ℕ) → 128 ≤ byte * 2 ^ (level - 1) % 256 → chroma level byte ≡ pos (byte * 2 ^ (level - 1) % 256) -ℤ pos 256
 unfolding chroma signedByte
-chroma-high level byte h = simp (le-ltb _ _ h)
+chroma-high level byte h =
+    ap (λ (t : Bool). choose t (pos (byte * 2 ^ (level - 1) % 256)) (pos (byte * 2 ^ (level - 1) % 256) -ℤ pos 256)) (le-ltb (byte * 2 ^ (level - 1) % 256) 128 h)
+
+pub chroma-low : (level byte : ℕ) → byte * 2 ^ (level - 1) % 256 < 128 → chroma level byte ≡ pos (byte * 2 ^ (level - 1) % 256)
+unfolding chroma signedByte
+chroma-low level byte h =
+    ap (λ (t : Bool). choose t (pos (byte * 2 ^ (level - 1) % 256)) (pos (byte * 2 ^ (level - 1) % 256) -ℤ pos 256)) (lt-ltb (byte * 2 ^ (level - 1) % 256) 128 h)
 
 signed-between : (b : ℕ) → b < 256 → Between (signedByte b) 255 256
 unfolding signedByte

@@ -1,7 +1,7 @@
 -- The tests before a picture, one after the other, and what they leave.
 use Prim.Native.Nat.{ℕ, _≤_}
 use mathlib.Core.Bool.{Bool, true, false, _||_}
-use mathlib.Core.Path.{_≡_, refl}
+use mathlib.Core.Path.{_≡_, refl, ap}
 use mathlib.Core.List.{List, [], _∷_}
 use lib.Dec.{ltb, eqb}
 use borrow.Author.Tests.{ltb-false, eqb-false}
@@ -16,7 +16,7 @@ use Rattle.bitmap_format.specs.Tests.{Test, downwards}
 module _ (t : Test) (tests : List Test) (passed : Answer) where
   pub refuses : t .given ≡ true → downwards (t ∷ tests) passed ≡ refused (t .number)
   unfolding downwards
-  refuses e = rw e
+  refuses e = ap (λ (given : Bool). choose given (refused (t .number)) (downwards tests passed)) e
 
   pub passes : t .given ≡ false → downwards (t ∷ tests) passed ≡ downwards tests passed
   unfolding downwards

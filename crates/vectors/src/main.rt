@@ -20,6 +20,5 @@ fn main() {
     file::replay(Kind::Plane(Entry::Pack), b"plane-pack.txt");
     file::replay(Kind::Picture, b"examples-picture.txt");
     file::replay(Kind::Picture, b"refusals-picture.txt");
-    // The Rust's answers to pictures, picture-unpack.txt, are to follow here: they are not stored yet in the form of a line that
-    // picture.rt reads.
+    file::replay(Kind::Picture, b"picture-unpack.txt");
 }

@@ -28,11 +28,9 @@ pub(crate) fn surrounded() -> [u8; MOST + MARGIN * 2]
     [AROUND; MOST + MARGIN * 2]
 }
 
-// Makes the part of size bytes ready to be written.
-pub(crate) fn prepare(around: &mut [u8], size: usize)
-    requires { ⌜ size + 32 ≤ length (now around) ⌝ }
-{
-    read::fill(&mut around[MARGIN..MARGIN + size], UNWRITTEN);
+// Makes a part ready to be written.
+pub(crate) fn prepare(part: &mut [u8]) {
+    read::fill(part, UNWRITTEN);
 }
 
 // Looks at the part that should hold these bytes.

@@ -107,8 +107,15 @@ fn replay_in(
     let Bytes::Value { count, next } = read::next_bytes(line, at, bytes) else {
         return Outcome::Malformed;
     };
-    let got = run(case, &bytes[0..count], work, image);
-    compared(case, got, line, next, bytes, work, image)
+    let work_end = MARGIN + case.work;
+    let image_end = MARGIN + case.image;
+    let got = run(
+        case,
+        &bytes[0..count],
+        &mut work[MARGIN..work_end],
+        &mut image[MARGIN..image_end],
+    );
+    compared(case, got, line, next, work, image)
 }
 
 // Reads the numbers.
@@ -153,25 +160,23 @@ fn read_numbers(line: &[u8], numbers: &mut [usize; NUMBERS]) -> usize {
 
 // The header that the numbers tell.
 fn header_of(numbers: [usize; NUMBERS]) -> Header {
-    if 1 < numbers[RLE]
-        || 1 < numbers[ALPHA]
-        || 1 < numbers[DEFINITION]
-        || 1 < numbers[SUBSAMPLED]
-    {
+    if !are_flags(
+        numbers[RLE],
+        numbers[ALPHA],
+        numbers[DEFINITION],
+        numbers[SUBSAMPLED],
+    ) {
         return Header::Malformed;
     }
     let level = numbers[LEVEL];
     if 255 < level {
         return Header::Malformed;
     }
-    let color_plane_definition = if numbers[DEFINITION] == 0 {
-        ColorPlaneDefinition::Argb
-    } else {
-        ColorPlaneDefinition::AYCoCg {
-            color_loss_level: level as u8,
-            use_chroma_subsampling: numbers[SUBSAMPLED] == 1,
-        }
-    };
+    let color_plane_definition = definition_of(
+        numbers[DEFINITION],
+        level as u8,
+        numbers[SUBSAMPLED],
+    );
     Header::Of(BitmapStreamHeader {
         enable_rle_compression: numbers[RLE] == 1,
         use_alpha: numbers[ALPHA] == 1,
@@ -179,23 +184,27 @@ fn header_of(numbers: [usize; NUMBERS]) -> Header {
     })
 }
 
-// Runs the case on parts of work and image.
-fn run(case: Case, body: &[u8], work: &mut [u8], image: &mut [u8]) -> Answer
-    requires { ⌜ (case .work + 32 ≤ length (now work)) × (case .image + 32 ≤ length (now image)) ⌝ }
-{
-    part::prepare(work, case.work);
-    part::prepare(image, case.image);
+// Whether each of four numbers is 0 or 1.
+fn are_flags(a: usize, b: usize, c: usize, d: usize) -> bool {
+    a < 2 && b < 2 && c < 2 && d < 2
+}
+
+fn definition_of(definition: usize, level: u8, subsampled: usize) -> ColorPlaneDefinition {
+    if definition == 0 {
+        return ColorPlaneDefinition::Argb;
+    }
+    ColorPlaneDefinition::AYCoCg {
+        color_loss_level: level,
+        use_chroma_subsampling: subsampled == 1,
+    }
+}
+
+// Runs the case.
+fn run(case: Case, body: &[u8], work: &mut [u8], image: &mut [u8]) -> Answer {
+    part::prepare(work);
+    part::prepare(image);
     let header = case.header;
-    let work_end = MARGIN + case.work;
-    let image_end = MARGIN + case.image;
-    of_decoding(bitmap_decoder::decode(
-        header,
-        body,
-        &mut work[MARGIN..work_end],
-        &mut image[MARGIN..image_end],
-        case.width,
-        case.height,
-    ))
+    of_decoding(bitmap_decoder::decode(header, body, work, image, case.width, case.height))
 }
 
 fn of_decoding(decoded: Decoded) -> Answer {
@@ -208,27 +217,18 @@ fn of_decoding(decoded: Decoded) -> Answer {
     }
 }
 
-// Compares all that there is to see with the end of the line, from `at` on. The body's room is free again, and takes what
-// the slices should hold.
-fn compared(
-    case: Case,
-    got: Answer,
-    line: &[u8],
-    at: usize,
-    after: &mut [u8],
-    work: &[u8],
-    image: &[u8],
-) -> Outcome
+// Compares all that there is to see with the end of the line, from `at` on.
+fn compared(case: Case, got: Answer, line: &[u8], at: usize, work: &[u8], image: &[u8]) -> Outcome
     requires { ⌜ (case .work + 32 ≤ length (now work)) × (case .image + 32 ≤ length (now image)) ⌝ }
 {
     let Held::As {
         seen: in_work,
         next,
-    } = next_held(line, at, after, work, case.work)
+    } = next_held(line, at, work, case.work)
     else {
         return Outcome::Malformed;
     };
-    let Held::As { seen, next: end } = next_held(line, next, after, image, case.image) else {
+    let Held::As { seen, next: end } = next_held(line, next, image, case.image) else {
         return Outcome::Malformed;
     };
     if end != line.len() {
@@ -241,7 +241,15 @@ fn compared(
 }
 
 // Looks at the part of size bytes, which should hold what the line says at `at`.
-fn next_held(line: &[u8], at: usize, after: &mut [u8], around: &[u8], size: usize) -> Held
+fn next_held(line: &[u8], at: usize, around: &[u8], size: usize) -> Held
+    requires { ⌜ size + 32 ≤ length (now around) ⌝ }
+{
+    let mut room = part::surrounded();
+    next_held_in(line, at, around, size, &mut room)
+}
+
+// The same, with room for what the line says.
+fn next_held_in(line: &[u8], at: usize, around: &[u8], size: usize, after: &mut [u8]) -> Held
     requires { ⌜ size + 32 ≤ length (now around) ⌝ }
 {
     let Bytes::Value { count, next } = read::next_bytes(line, at, after) else {

@@ -142,7 +142,6 @@ fn is_whole(case: Case, room: usize, line: &[u8], end: usize) -> bool {
 fn run(case: Case, given: &[u8], dst: &mut [u8], after: &[u8]) -> Outcome
     requires { ⌜ length (now after) + 32 ≤ length (now dst) ⌝ }
 {
-    part::prepare(dst, after.len());
     let answer = called(case, given, &mut dst[MARGIN..MARGIN + after.len()]);
     let seen = part::look_at(dst, after);
     let expected = case.answer;
@@ -151,6 +150,7 @@ fn run(case: Case, given: &[u8], dst: &mut [u8], after: &[u8]) -> Outcome
 
 // Calls what the case is for.
 fn called(case: Case, given: &[u8], dst: &mut [u8]) -> Answer {
+    part::prepare(dst);
     let entry = case.entry;
     match entry {
         Entry::Unpack => of_unpacking(rle_decoder::decompress_8bpp_plane(

@@ -25,6 +25,12 @@ same-length c = search needs
 returns-3 : tie.Need-returns-3
 returns-3 c = search needs
 
+add-work-end : tie.Need-add-work-end
+add-work-end c = search needs
+
+add-image-end : tie.Need-add-image-end
+add-image-end c = search needs
+
 sub-run : tie.Need-sub-run
 sub-run c = search needs
 
@@ -33,14 +39,37 @@ part-run-start c = search needs
 
 part-run-end : tie.Need-part-run-end
 part-run-end c =
-    let p = c .before .before in
+    let p = c .before .before .before .before in
     omega (arith, rw (p .count .given .1) at (p .before .before .before .before .next-bytes .ensures))
+
+sub-run-2 : tie.Need-sub-run-2
+sub-run-2 c = search needs
+
+part-run-start-2 : tie.Need-part-run-start-2
+part-run-start-2 c = search needs
+
+part-run-end-2 : tie.Need-part-run-end-2
+part-run-end-2 c = search needs
+
+sub-run-3 : tie.Need-sub-run-3
+sub-run-3 c = search needs
+
+part-run-start-3 : tie.Need-part-run-start-3
+part-run-start-3 c = search needs
+
+part-run-end-3 : tie.Need-part-run-end-3
+part-run-end-3 c = search needs
 
 run-requires : tie.Need-run-requires
 run-requires c κs = search needs
 
 compared-requires : tie.Need-compared-requires
-compared-requires c κs = search needs
+compared-requires c κs =
+    let e = c .before .before .before .before .before .before .before .before .before .before .before .before .before .before .before .before .before .before .before .before in
+    let s = e .before .before .before .before .before .before .before .before in (
+      omega (arith, s .pre .0, e .before .before .if1 .left, c .before .before .before .before .before .work .given .1, c .before .before .before .image .given .1),
+      omega (arith, s .pre .1, e .if2 .left, c .before .before .before .before .before .work .given .1, c .before .before .before .image .given .1),
+    )
 
 same-length-2 : tie.Need-same-length-2
 same-length-2 c = search needs
@@ -65,9 +94,17 @@ replay-in-spec =
     enum-told
     same-length
     returns-3
+    add-work-end
+    add-image-end
     sub-run
     part-run-start
     part-run-end
+    sub-run-2
+    part-run-start-2
+    part-run-end-2
+    sub-run-3
+    part-run-start-3
+    part-run-end-3
     run-requires
     compared-requires
     same-length-2

@@ -1,8 +1,8 @@
--- `next_held` is safe: the bytes that were read lie within the room for them. Assumes nothing.
+-- `next_held_in` is safe: the bytes that were read lie within the room for them. Assumes nothing.
 use native.Mathlib.Omega.{arith}
 use borrow.Author.Needs.{needs}
-use Rattle.vectors.proofs.picture.next_held.Statement.{statement}
-use Rattle.vectors.proofs.picture.next_held.Tie as tie
+use Rattle.vectors.proofs.picture.next_held_in.Statement.{statement}
+use Rattle.vectors.proofs.picture.next_held_in.Tie as tie
 
 next-bytes-requires : tie.Need-next-bytes-requires
 next-bytes-requires c κs = search needs
@@ -45,8 +45,8 @@ same-length-3 c = search needs
 returns-3 : tie.Need-returns-3
 returns-3 c = search needs
 
-pub next-held-spec : {M : Type 1} → statement M
-next-held-spec =
+pub next-held-in-spec : {M : Type 1} → statement M
+next-held-in-spec =
     tie.close
     (tie.spec
     next-bytes-requires
