@@ -39,6 +39,39 @@ module _ (header : BitmapStreamHeader) (w h : ℕ) (body work image : List ℕ) 
     pub picture-raw : header .«enable_rle_compression» ≡ false → unpackPicture header w h body work image ≡ rawPicture header w h body work image
     picture-raw t = picture-read ∙ ap (λ (b : Bool). choose b (rlePicture header w h body work image) (rawPicture header w h body work image)) t
 
+-- ---- what a picture leaves alone
+
+-- "The image is untouched by any refusal"
+pub image-untouched : (header : BitmapStreamHeader) (w h : ℕ) (body work image : List ℕ) (r : ℕ) → unpackPicture header w h body work image .answer ≡ refused r
+    → unpackPicture header w h body work image .image ≡ image
+unfolding rlePicture rawPicture painted fromWork
+image-untouched header w h body work image r e = by-tests (tested header w h (length body) (length work) (length image)) refl
+  where
+    planes : (work : List ℕ) (a : Answer) → fromWork header w h work image a .answer ≡ refused r → fromWork header w h work image a .image ≡ image
+    planes work (counted n) e = not-counted (sym e)
+    planes work (refused q) e = refl
+
+    read : (n : ℕ) → tested header w h (length body) (length work) (length image) ≡ counted n → (b : Bool) → header .«enable_rle_compression» ≡ b
+        → unpackPicture header w h body work image .image ≡ image
+    read n et true eb =
+        let p = picture-rle header w h body work image n et eb in
+        let u = unpackPlanes (planesOf header w h) work body in
+        ap (λ (p : Picture). p .image) p ∙ planes (u .work) (u .answer) (sym (ap (λ (p : Picture). p .answer) p) ∙ e)
+    read n et false eb = not-counted (sym e ∙ ap (λ (p : Picture). p .answer) (picture-raw header w h body work image n et eb))
+
+    by-tests : (a : Answer) → tested header w h (length body) (length work) (length image) ≡ a → unpackPicture header w h body work image .image ≡ image
+    by-tests (refused q) et = ap (λ (p : Picture). p .image) (picture-refused header w h body work image q et)
+    by-tests (counted n) et = read n et (header .«enable_rle_compression») refl
+
+-- "A raw picture does not touch the work area"
+pub work-untouched : (header : BitmapStreamHeader) (w h : ℕ) (body work image : List ℕ) → header .«enable_rle_compression» ≡ false → unpackPicture header w h body work image .work ≡ work
+unfolding rawPicture painted
+work-untouched header w h body work image eb = by-tests (tested header w h (length body) (length work) (length image)) refl
+  where
+    by-tests : (a : Answer) → tested header w h (length body) (length work) (length image) ≡ a → unpackPicture header w h body work image .work ≡ work
+    by-tests (refused q) et = ap (λ (p : Picture). p .work) (picture-refused header w h body work image q et)
+    by-tests (counted n) et = ap (λ (p : Picture). p .work) (picture-raw header w h body work image n et eb)
+
 -- ---- how many bytes are written
 
 painted-answer : (header : BitmapStreamHeader) (w h n : ℕ) (work image : List ℕ) (a : Answer) → fromWork header w h work image a .answer ≡ counted n → n ≡ imageSize w h

@@ -6,11 +6,12 @@ use mathlib.Core.List.{List, [], _∷_}
 use lib.Dec.{ltb}
 use borrow.Author.Tests.{lt-ltb, le-ltb, ltb-false}
 use Rattle.rle_format.specs.Answer.{Answer, counted, refused}
+use Rattle.rle_format.proofs.Sides.{Within, sides-in}
 use Rattle.bitmap_format.specs.declared.BitmapStreamHeader.{BitmapStreamHeader}
 use Rattle.bitmap_format.specs.Tests.{Test, test, downwards}
 use Rattle.bitmap_format.specs.Sizes.{leastBody, workSize, imageSize}
 use Rattle.bitmap_format.specs.Picture.{lossWrong, pictureTests, tested}
-use Rattle.bitmap_format.proofs.Tests.{refuses, passes, none-left, Inside, sides-passed, test-passed}
+use Rattle.bitmap_format.proofs.Tests.{refuses, passes, none-left, sides-passed, test-passed}
 
 -- ---- the tests below those of the sides, one after the other
 
@@ -71,15 +72,16 @@ pub record Passed (header : BitmapStreamHeader) (w h body work image n : ℕ) : 
 pub passed : (header : BitmapStreamHeader) (w h body work image n : ℕ) → tested header w h body work image ≡ counted n → Passed header w h body work image n
 unfolding tested
 passed header w h body work image n e =
-    let i : Inside w h (below header w h body work image) n = sides-passed w h n _ e in
-    let three = test-passed (test 3 (lossWrong (header .«color_plane_definition»))) (fourth header w h body work image) (counted (imageSize w h)) n (i .left) in
+    let i = sides-passed w h n (below header w h body work image) e in
+    let sides : Within w h = sides-in w h (i .0) in
+    let three = test-passed (test 3 (lossWrong (header .«color_plane_definition»))) (fourth header w h body work image) (counted (imageSize w h)) n (i .1) in
     let four = test-passed (test 4 (ltb body (leastBody header w h))) (fifth header w h body work image) (counted (imageSize w h)) n (three .1) in
     let five = test-passed (test 5 (ltb work (workSize header w h))) (sixth header w h body work image) (counted (imageSize w h)) n (four .1) in
     let six = test-passed (test 6 (ltb image (imageSize w h))) [] (counted (imageSize w h)) n (five .1) in
     let last : counted (imageSize w h) ≡ counted n = sym (none-left (counted (imageSize w h))) ∙ six .1 in
     record {
-      width-most = i .width-most;
-      height-most = i .height-most;
+      width-most = sides .wide;
+      height-most = sides .high;
       loss = three .0;
       body-least = ltb-false body (leastBody header w h) (four .0);
       work-least = ltb-false work (workSize header w h) (five .0);
