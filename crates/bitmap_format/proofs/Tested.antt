@@ -1,7 +1,7 @@
 -- The tests of a picture, one after the other, and what is known once they are passed.
 use Prim.Native.Nat.{ℕ, _≤_, _<_}
 use mathlib.Core.Bool.{true, false}
-use mathlib.Core.Path.{_≡_, sym, _∙_}
+use mathlib.Core.Path.{_≡_, sym, ap, _∙_}
 use mathlib.Core.List.{List, [], _∷_}
 use lib.Dec.{ltb}
 use borrow.Author.Tests.{lt-ltb, le-ltb, ltb-false}
@@ -39,25 +39,27 @@ module _ (header : BitmapStreamHeader) (w h body work image : ℕ) where
     loss-passed : below ≡ downwards fourth size
     loss-passed = passes _ fourth size hl
 
-    pub body-refused : body < leastBody header w h → below ≡ refused 4
-    body-refused l = loss-passed ∙ refuses _ fifth size (lt-ltb body (leastBody header w h) l)
+    -- the least sizes are told as the code has found them
+    module _ (least-body : ℕ) (eb : least-body ≡ leastBody header w h) where
+      pub body-refused : body < least-body → below ≡ refused 4
+      body-refused l = loss-passed ∙ refuses _ fifth size (lt-ltb body (leastBody header w h) (rw eb at l))
 
-    module _ (lb : leastBody header w h ≤ body) where
-      body-passed : below ≡ downwards fifth size
-      body-passed = loss-passed ∙ passes _ fifth size (le-ltb body (leastBody header w h) lb)
+      module _ (lb : least-body ≤ body) (least-work : ℕ) (ek : least-work ≡ workSize header w h) where
+        body-passed : below ≡ downwards fifth size
+        body-passed = loss-passed ∙ passes _ fifth size (le-ltb body (leastBody header w h) (rw eb at lb))
 
-      pub work-refused : work < workSize header w h → below ≡ refused 5
-      work-refused l = body-passed ∙ refuses _ sixth size (lt-ltb work (workSize header w h) l)
+        pub work-refused : work < least-work → below ≡ refused 5
+        work-refused l = body-passed ∙ refuses _ sixth size (lt-ltb work (workSize header w h) (rw ek at l))
 
-      module _ (lk : workSize header w h ≤ work) where
-        work-passed : below ≡ downwards sixth size
-        work-passed = body-passed ∙ passes _ sixth size (le-ltb work (workSize header w h) lk)
+        module _ (lk : least-work ≤ work) (least-image : ℕ) (ei : least-image ≡ imageSize w h) where
+          work-passed : below ≡ downwards sixth size
+          work-passed = body-passed ∙ passes _ sixth size (le-ltb work (workSize header w h) (rw ek at lk))
 
-        pub image-refused : image < imageSize w h → below ≡ refused 6
-        image-refused l = work-passed ∙ refuses _ [] size (lt-ltb image (imageSize w h) l)
+          pub image-refused : image < least-image → below ≡ refused 6
+          image-refused l = work-passed ∙ refuses _ [] size (lt-ltb image (imageSize w h) (rw ei at l))
 
-        pub all-passed : imageSize w h ≤ image → below ≡ counted (imageSize w h)
-        all-passed l = work-passed ∙ passes _ [] size (le-ltb image (imageSize w h) l) ∙ none-left size
+          pub all-passed : least-image ≤ image → counted least-image ≡ below
+          all-passed l = ap counted ei ∙ sym (work-passed ∙ passes _ [] size (le-ltb image (imageSize w h) (rw ei at l)) ∙ none-left size)
 
 -- ---- where all are passed, what is known of the slices
 pub record Passed (header : BitmapStreamHeader) (w h body work image n : ℕ) : Type 0 where

@@ -11,7 +11,7 @@ use Rattle.bitmap_format.specs.declared.ColorPlaneDefinition.the-variant
 use Rattle.bitmap_format.specs.Colour.{rgb, aycocgColour, rgb24}
 use Rattle.bitmap_format.specs.Planes.{PlaneAt, firstPlane, secondPlane, thirdPlane}
 
--- the sample at a row and a column of a plane
+-- the sample at a row and a column of a plane. Behind the planes' end it would be 0; a picture that passed its tests has no such place
 unfoldable pub sample : (planes : List ℕ) → PlaneAt → (row column : ℕ) → ℕ
 sample planes p row column = getD planes (p .offset + row * p .width + column) 0
 

@@ -1,6 +1,5 @@
 -- `test_slices`: each return by the law of the test that led to it (bitmap_format's Tested.antt). Assumes nothing.
-use mathlib.Core.Path.{_≡_, sym, ap, _∙_}
-use Rattle.rle_format.specs.Answer.{counted}
+use mathlib.Core.Path.{_≡_, sym, _∙_}
 use Rattle.rle_format.proofs.Sides.{in-sides}
 use Rattle.bitmap_format.specs.Sizes.{leastBody, workSize, imageSize}
 use Rattle.bitmap_format.proofs.Tested.{loss-refused, body-refused, work-refused, image-refused, all-passed}
@@ -40,18 +39,22 @@ returns : tie.Need-returns
 returns c = sym (loss-refused _ _ _ _ _ _ (sym (c .before .before .before .before .is-loss-wrong .ensures) ∙ c .if1 .taken))
 
 returns-2 : tie.Need-returns-2
-returns-2 c = sym (body-refused _ _ _ _ _ _ (sym (c .before .before .before .before .before .is-loss-wrong .ensures) ∙ c .before .if1 .left) (rw (least-body ((c .before .before))) at (c .if2 .taken)))
+returns-2 c = sym (body-refused _ _ _ _ _ _ (sym (c .before .before .before .before .before .is-loss-wrong .ensures) ∙ c .before .if1 .left) (c .before .before .before .before .min-body-size .result) (least-body ((c .before .before))) (c .if2 .taken))
 
 returns-3 : tie.Need-returns-3
-returns-3 c = sym (work-refused _ _ _ _ _ _ (sym (c .before .before .before .before .before .before .is-loss-wrong .ensures) ∙ c .before .before .if1 .left) (rw (least-body ((c .before .before .before))) at (c .before .if2 .left)) (rw (least-work ((c .before .before .before))) at (c .if3 .taken)))
+returns-3 c =
+    let k = (c .before .before .before) in
+    sym (work-refused _ _ _ _ _ _ (sym (c .before .before .before .before .before .before .is-loss-wrong .ensures) ∙ c .before .before .if1 .left) (k .before .before .min-body-size .result) (least-body k) (c .before .if2 .left) (k .before .work-size .result) (least-work k) (c .if3 .taken))
 
 returns-4 : tie.Need-returns-4
-returns-4 c = sym (image-refused _ _ _ _ _ _ (sym (c .before .before .before .before .before .before .before .is-loss-wrong .ensures) ∙ c .before .before .before .if1 .left) (rw (least-body ((c .before .before .before .before))) at (c .before .before .if2 .left)) (rw (least-work ((c .before .before .before .before))) at (c .before .if3 .left)) (rw (least-image ((c .before .before .before .before))) at (c .if4 .taken)))
+returns-4 c =
+    let k = (c .before .before .before .before) in
+    sym (image-refused _ _ _ _ _ _ (sym (c .before .before .before .before .before .before .before .is-loss-wrong .ensures) ∙ c .before .before .before .if1 .left) (k .before .before .min-body-size .result) (least-body k) (c .before .before .if2 .left) (k .before .work-size .result) (least-work k) (c .before .if3 .left) (k .image-size .result) (least-image k) (c .if4 .taken))
 
 returns-5 : tie.Need-returns-5
 returns-5 c =
-    ap counted (least-image ((c .before .before .before .before)))
-    ∙ sym (all-passed _ _ _ _ _ _ (sym (c .before .before .before .before .before .before .before .is-loss-wrong .ensures) ∙ c .before .before .before .if1 .left) (rw (least-body ((c .before .before .before .before))) at (c .before .before .if2 .left)) (rw (least-work ((c .before .before .before .before))) at (c .before .if3 .left)) (rw (least-image ((c .before .before .before .before))) at (c .if4 .left)))
+    let k = (c .before .before .before .before) in
+    all-passed _ _ _ _ _ _ (sym (c .before .before .before .before .before .before .before .is-loss-wrong .ensures) ∙ c .before .before .before .if1 .left) (k .before .before .min-body-size .result) (least-body k) (c .before .before .if2 .left) (k .before .work-size .result) (least-work k) (c .before .if3 .left) (k .image-size .result) (least-image k) (c .if4 .left)
 
 pub test-slices-spec : {M : Type 1} → statement M
 test-slices-spec =
