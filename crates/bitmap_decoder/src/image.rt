@@ -7,7 +7,7 @@ ghost use Rattle.bitmap_format.specs.declared.ColorPlaneDefinition.the-variants
 ghost use Rattle.bitmap_format.specs.Planes.{colourPlanes};
 ghost use Rattle.bitmap_format.specs.Sizes.{samples, total, rowSize, imageSize};
 ghost use Rattle.bitmap_format.specs.Image.{chromaPlace, imageRow, placed};
-use crate::colour::AYCoCgParams;
+use crate::color::AYCoCgParams;
 use crate::row::write_argb_row;
 use crate::row::write_aycocg_row;
 use bitmap_format::chroma_side;

@@ -1,9 +1,9 @@
 // Unpacks a picture of RDP 6.0 (MS-RDPEGDI 3.1.9.1): the Rust's rdp6/bitmap_stream/decoder.rs.
-mod colour;
+mod color;
 mod image;
 mod planes;
+mod refusals;
 mod row;
-mod tests;
 
 ghost use mathlib.Core.Path.{_≡_};
 ghost use mathlib.Core.Bool.{false};
@@ -17,12 +17,12 @@ ghost use Rattle.bitmap_format.specs.Picture.{lossWrong, rlePicture, unpackPict
 use bitmap_format::BitmapStreamHeader;
 use bitmap_format::ColorPlaneDefinition;
 use bitmap_format::Decoded;
-use colour::AYCoCgParams;
+use color::AYCoCgParams;
 use image::write_argb_planes_to_rgb24;
 use image::write_aycocg_planes_to_rgb24;
 use planes::decompress_planes;
+use refusals::first_refusal;
 use rle_format::Unpacked;
-use tests::first_refusal;
 
 // Writes the image of a picture, whose colour planes stand at the start of planes.
 fn write_planes(

@@ -51,7 +51,7 @@ fn decompress_alpha(
 }
 
 // Unpacks the three colour planes from place `from` of the body on. The answer counts the bytes before it too.
-fn decompress_colour_planes(
+fn decompress_color_planes(
     body: &[u8],
     from: usize,
     work: &mut [u8],
@@ -96,5 +96,5 @@ pub(crate) fn decompress_planes(
     };
     let definition = header.color_plane_definition;
     let subsampling = has_subsampled_chroma(definition);
-    decompress_colour_planes(body, from, work, width, height, subsampling)
+    decompress_color_planes(body, from, work, width, height, subsampling)
 }

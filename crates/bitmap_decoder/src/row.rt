@@ -7,8 +7,8 @@ ghost use Rattle.rle_format.specs.Slice.{over, putAt};
 ghost use Rattle.bitmap_format.specs.Colour.{rgb24};
 ghost use Rattle.bitmap_format.specs.Planes.{chromaSide};
 ghost use Rattle.bitmap_decoder.specs.Rows.{argbRow, aycocgRow};
-use crate::colour::AYCoCgParams;
-use crate::colour::aycocg_color;
+use crate::color::AYCoCgParams;
+use crate::color::aycocg_color;
 use bitmap_format::Rgb;
 
 // Writes a pixel into dst from `at` on.

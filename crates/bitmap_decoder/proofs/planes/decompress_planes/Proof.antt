@@ -28,8 +28,8 @@ returns c =
 has-subsampled-chroma-requires : tie.Need-has-subsampled-chroma-requires
 has-subsampled-chroma-requires c κs = search needs
 
-decompress-colour-planes-requires : tie.Need-decompress-colour-planes-requires
-decompress-colour-planes-requires c κs =
+decompress-color-planes-requires : tie.Need-decompress-color-planes-requires
+decompress-color-planes-requires c κs =
     let s = (c .before .before .before .before .before .before .before .before .before .before .before) in
     let d = c .before .before .before .before .before .before .before .decompress-alpha in
     let k = c .before .before .before .alpha .given in
@@ -42,7 +42,7 @@ returns-2 : tie.Need-returns-2
 returns-2 c =
     let d = c .before .before .before .before .before .before .before .before .before .before .decompress-alpha in
     let k = c .before .before .before .before .before .before .alpha .given in
-    let e = c .before .before .decompress-colour-planes in
+    let e = c .before .before .decompress-color-planes in
     colours-then _ _ _ _ _ _ (d .result) (d .ensures) (k .0 .0) (k .1) _ (c .before .before .before .before .has-subsampled-chroma .ensures) _ (e .result) (e .ensures)
 
 pub decompress-planes-spec : {M : Type 1} → statement M
@@ -55,6 +55,6 @@ decompress-planes-spec =
     same-length
     returns
     has-subsampled-chroma-requires
-    decompress-colour-planes-requires
+    decompress-color-planes-requires
     same-length-2
     returns-2)

@@ -2,8 +2,8 @@
 use mathlib.Core.Path.{ap}
 use Rattle.bitmap_format.specs.Colour.{swapped, aycocgColour}
 use borrow.Author.Needs.{needs}
-use Rattle.bitmap_decoder.proofs.colour.aycocg_color.Statement.{statement}
-use Rattle.bitmap_decoder.proofs.colour.aycocg_color.Tie as tie
+use Rattle.bitmap_decoder.proofs.color.aycocg_color.Statement.{statement}
+use Rattle.bitmap_decoder.proofs.color.aycocg_color.Tie as tie
 
 ycocg-with-cll-to-rgb-requires : tie.Need-ycocg-with-cll-to-rgb-requires
 ycocg-with-cll-to-rgb-requires c κs = search needs

@@ -1,4 +1,4 @@
--- `decompress_colour_planes`: before each plane, what is left is what was to do (`PlanesHead` of bitmap_format's
+-- `decompress_color_planes`: before each plane, what is left is what was to do (`PlanesHead` of bitmap_format's
 -- UnpackPlanes.antt). Assumes nothing.
 use Prim.Native.Nat.{_+_, _*_}
 use mathlib.Core.List.{[], _∷_}
@@ -10,8 +10,8 @@ use Rattle.bitmap_format.proofs.UnpackPlanes.{PlanesHead, planes-first}
 use Rattle.bitmap_decoder.proofs.Images.{Areas, areas}
 use Rattle.bitmap_decoder.proofs.Chains.{onward, stopped, finished, colour-planes-are}
 use borrow.Author.Needs.{needs}
-use Rattle.bitmap_decoder.proofs.planes.decompress_colour_planes.Statement.{statement}
-use Rattle.bitmap_decoder.proofs.planes.decompress_colour_planes.Tie as tie
+use Rattle.bitmap_decoder.proofs.planes.decompress_color_planes.Statement.{statement}
+use Rattle.bitmap_decoder.proofs.planes.decompress_color_planes.Tie as tie
 
 -- the sizes of the planes
 sizes : (c : tie.After-chroma-side2) → Areas (c .before .before .before .before .args .width) (c .before .before .before .before .args .height) (c .before .chroma-side .result) (c .chroma-side2 .result) (length (c .before .before .before .before .args .work .now))
@@ -123,8 +123,8 @@ returns-3 c =
     finished _ (planeAt (c .before .before .before .before .before .before .before .before .before .before .before .before .before .before .before .before .before .before .before .chroma-side .result) (c .before .before .before .before .before .before .before .before .before .before .before .before .before .before .before .before .before .before .chroma-side2 .result) (a .width * a .height + c .before .before .before .before .before .before .before .before .before .before .before .before .before .before .before .before .before .before .before .chroma-side .result * c .before .before .before .before .before .before .before .before .before .before .before .before .before .before .before .before .before .before .chroma-side2 .result)) (a .body .now) (a .work .now) (c .before .before .before .before .before .before .before .before .before .decompress-next-plane2 .last .1 .1 .0) (d .last .1 .1 .0)
     (a .from) (c .before .before .before .before .before .second .given .0 .0) (d .result) (head3 ((c .before .before .before .before .before))) (d .ensures)
 
-pub decompress-colour-planes-spec : {M : Type 1} → statement M
-decompress-colour-planes-spec =
+pub decompress-color-planes-spec : {M : Type 1} → statement M
+decompress-color-planes-spec =
     tie.close
     (tie.spec
     mul-full

@@ -1,8 +1,8 @@
 -- `chroma_value`: below 128 the byte as it is, above it less 256; Signs.antt has the i16 part. Assumes nothing.
 use Rattle.bitmap_decoder.proofs.Signs.{chroma-whole, chroma-fits, chroma-same}
 use borrow.Author.Needs.{needs}
-use Rattle.bitmap_decoder.proofs.colour.chroma_value.Statement.{statement}
-use Rattle.bitmap_decoder.proofs.colour.chroma_value.Tie as tie
+use Rattle.bitmap_decoder.proofs.color.chroma_value.Statement.{statement}
+use Rattle.bitmap_decoder.proofs.color.chroma_value.Tie as tie
 
 sub-scaled : tie.Need-sub-scaled
 sub-scaled c = search needs
