@@ -6,7 +6,7 @@ use native.Mathlib.Nat.{add-zero, zero-add, suc-add, add-assoc}
 use native.Mathlib.Numerals.{add-one}
 use native.Mathlib.Omega.{arith}
 use lib.ListN.{length, take, drop, set, getD, replicate, length-append, length-take, length-drop, length-replicate, take-append-drop, replicate-append-replicate, List·getD-append, drop-of-length-le}
-use lib.Seq.{set-split, take-at, drop-at, drop-drop, take-suc, getD-drop, getD-take, take-all, take-nil, take-add, drop-append-add}
+use lib.Seq.{set-split, take-at, drop-at, drop-drop, take-suc, length-take-le, getD-drop, getD-take, take-all, take-nil, take-add, drop-append-add}
 use Rattle.rle_format.specs.Slice.{over, putAt}
 
 pub putAt-none : (d : List ℕ) (at : ℕ) → putAt d at [] ≡ d
@@ -201,3 +201,23 @@ over-more d xs ys n l =
     ∙ drop-drop (length ys) (length xs) d
     ∙ ap (λ (k : ℕ). drop k d) (sym (length-append xs ys)) in
     (λ i. front i ++ (ys ++ back i)) ∙ sym (append-assoc xs ys (drop (length (xs ++ ys)) d))
+
+-- a store right behind the first places that were overwritten
+pub over-set : (d now vs : List ℕ) (i v : ℕ) → now ≡ over d vs → length vs ≡ i → i < length d → set now i v ≡ over d (vs ++ v ∷ [])
+unfolding over putAt
+over-set d now vs i v e n h =
+    let room : 0 + length vs < length d = omega arith in
+    let place : 0 + length vs ≡ i = omega arith in
+    let front : (ws : List ℕ) → putAt d 0 ws ≡ over d ws = λ ws. ap (λ (k : ℕ). ws ++ drop k d) (zero-add (length ws)) in
+    (λ j. set ((e ∙ sym (front vs)) j) (sym place j) v) ∙ putAt-more d 0 vs v room ∙ front (vs ++ v ∷ [])
+
+-- a turn of a loop that copies from index `from` of a list to the first places of a slice
+pub over-copy : (d now s : List ℕ) (from i v : ℕ) → now ≡ over d (take i (drop from s)) → from + i < length s → i < length d → v ≡ getD s (from + i) 0
+    → set now i v ≡ over d (take (i + 1) (drop from s))
+over-copy d now s from i v e h k is =
+    let left = length-drop from s in
+    let n : length (take i (drop from s)) ≡ i = length-take-le i (drop from s) (omega arith) in
+    over-set d now (take i (drop from s)) i v e n k
+    ∙ ap (λ (x : ℕ). over d (take i (drop from s) ++ x ∷ [])) (is ∙ sym (getD-drop from s i 0))
+    ∙ ap (over d) (sym (take-suc (drop from s) i 0 (omega arith)))
+    ∙ ap (λ (m : ℕ). over d (take m (drop from s))) (sym (add-one i))

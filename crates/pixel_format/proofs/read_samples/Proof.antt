@@ -1,0 +1,85 @@
+-- `read_samples`: nothing where none are left, else the loop of the layout. Assumes nothing.
+use mathlib.Core.Path.{ap, _∙_}
+use native.Mathlib.Omega.{arith}
+use lib.ListN.{length}
+use Prim.Native.Nat.{ℕ, _-_, min}
+use Rattle.pixel_format.specs.Channel.{samplesOf}
+use Rattle.pixel_format.proofs.Samples.{none-left, planar-count, planar-read, bgra-count, bgra-read}
+use borrow.Author.Needs.{needs}
+use Rattle.pixel_format.proofs.read_samples.Statement.{statement}
+use Rattle.pixel_format.proofs.read_samples.Tie as tie
+
+sample-count-requires : tie.Need-sample-count-requires
+sample-count-requires c κs = search needs
+
+returns : tie.Need-returns
+returns c =
+    let a = c .before .before .before .before .args in
+    none-left (a .dst .now) (samplesOf (a .layout) (a .channel) (a .src .now)) (a .from) (omega (arith, c .before .sample-count .ensures (a .channel)))
+
+sub-least : tie.Need-sub-least
+sub-least c = search needs
+
+least-requires : tie.Need-least-requires
+least-requires c κs = search needs
+
+enum-told : tie.Need-enum-told
+enum-told c = search needs
+
+copy-plane-requires : tie.Need-copy-plane-requires
+copy-plane-requires c κs =
+    let a = c .before .before .before .before .before .before .before .before .args in
+    let n = c .before .before .before .before .before .sample-count .ensures (a .channel) in
+    let m = planar-count (a .layout) (a .channel) (a .src .now) (c .before .enum-told .given .1) in
+    let e = c .before .before .before .least .ensures in
+    (omega arith, omega arith)
+
+enum-told-2 : tie.Need-enum-told-2
+enum-told-2 c = search needs
+
+place-of-requires : tie.Need-place-of-requires
+place-of-requires c κs = search needs
+
+copy-channel-requires : tie.Need-copy-channel-requires
+copy-channel-requires c κs =
+    let a = c .before .before .before .before .before .before .before .before .before .args in
+    let n = c .before .before .before .before .before .before .sample-count .ensures (a .channel) in
+    let m = bgra-count (a .layout) (a .channel) (a .src .now) (c .before .before .enum-told2 .given .1) in
+    let e = c .before .before .before .before .least .ensures in
+    (c .before .place-of .ensures .1, omega arith, omega arith)
+
+same-length : tie.Need-same-length
+same-length c = search needs
+
+returns-2 : tie.Need-returns-2
+returns-2 c =
+    let a = c .before .before .before .before .before .before .before .before .before .before .before .args in
+    let n = c .before .before .before .before .before .before .before .before .sample-count .ensures (a .channel) in
+    planar-read (a .layout) (a .channel) (a .src .now) (a .dst .now) _ (a .from) (c .before .before .before .before .before .before .least .result) (c .before .before .before .before .before .before .least .ensures ∙ ap (λ (k : ℕ). min (k - a .from) (length (a .dst .now))) n) (c .before .before .before .before .enum-told .given .1) (c .before .before .copy-plane .ensures)
+
+same-length-2 : tie.Need-same-length-2
+same-length-2 c = search needs
+
+returns-3 : tie.Need-returns-3
+returns-3 c =
+    let a = c .before .before .before .before .before .before .before .before .before .before .before .before .args in
+    let n = c .before .before .before .before .before .before .before .before .before .sample-count .ensures (a .channel) in
+    bgra-read (a .layout) (a .channel) (a .src .now) (a .dst .now) _ (a .from) (c .before .before .before .before .before .before .before .least .result) (c .before .before .before .before .before .before .before .least .ensures ∙ ap (λ (k : ℕ). min (k - a .from) (length (a .dst .now))) n) (c .before .before .before .before .place-of .result) (c .before .before .before .before .place-of .ensures .0) (c .before .before .before .before .before .enum-told2 .given .1) (c .before .before .copy-channel .ensures)
+
+pub read-samples-spec : {M : Type 1} → statement M
+read-samples-spec =
+    tie.close
+    (tie.spec
+    sample-count-requires
+    returns
+    sub-least
+    least-requires
+    enum-told
+    copy-plane-requires
+    enum-told-2
+    place-of-requires
+    copy-channel-requires
+    same-length
+    returns-2
+    same-length-2
+    returns-3)
