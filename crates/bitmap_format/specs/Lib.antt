@@ -5,4 +5,5 @@ pub mod Sizes
 pub mod Image
 pub mod UnpackPlanes
 pub mod Picture
+pub mod PackPicture
 pub mod Examples

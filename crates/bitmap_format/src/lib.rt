@@ -1,5 +1,5 @@
-// A picture of RDP 6.0 (MS-RDPEGDI 2.2.2.5.1): its header record, and the answer of unpacking it.
-// What is right is said in specs/; the decoder's contracts cite it.
+// A picture of RDP 6.0 (MS-RDPEGDI 2.2.2.5.1): its header record, and the answers of unpacking and of packing it.
+// What is right is said in specs/; the contracts of the decoder and the encoder cite it.
 mod plane_sizes;
 
 ghost use mathlib.Core.Path.{_≡_};
@@ -38,6 +38,15 @@ pub struct Rgb {
 // The answer of a picture that is unpacked: the bytes written to the image, or the refusal.
 pub enum Decoded {
     Written(usize),
+    Refused(Refusal),
+}
+
+// The answer of a picture that is packed: the bytes written and the header record to send, or the refusal.
+pub enum Encoded {
+    Written {
+        bytes: usize,
+        header: BitmapStreamHeader,
+    },
     Refused(Refusal),
 }
 

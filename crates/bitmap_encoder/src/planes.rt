@@ -1,0 +1,81 @@
+// A picture from the slices of its channels, which all have one layout: each channel in a slice of its own, or all in one slice of pixels, which is
+// then handed over for each of them.
+ghost use mathlib.Core.Path.{_≡_};
+ghost use lib.ListN.{length};
+ghost use Rattle.rle_format.specs.Answer.{toldPacked};
+ghost use Rattle.rle_format.specs.Slice.{over};
+ghost use Rattle.pixel_format.specs.declared.Channel.the-variants.{R, G, B, A};
+ghost use Rattle.pixel_format.specs.Channel.{samplesOf};
+ghost use Rattle.bitmap_format.specs.PackPicture.{threePlanes, fourPlanes, packPicture};
+use crate::raw::write_colors;
+use crate::raw::write_plane;
+use crate::rle::compress_colors;
+use crate::rle::compress_next_plane;
+use crate::sources::test_colors;
+use crate::sources::test_sources;
+use pixel_format::Channel;
+use pixel_format::Layout;
+use rle_format::Packed;
+use rle_format::Refusal;
+
+// Three planes: R, G, B.
+pub(crate) fn encode_three(
+    r: &[u8],
+    g: &[u8],
+    b: &[u8],
+    layout: Layout,
+    dst: &mut [u8],
+    rle: bool,
+    width: usize,
+    height: usize,
+) -> Packed
+    ensures answer { λ p. ⌜ toldPacked p ≡ packPicture rle width height (length (now (dst .entry))) (threePlanes (samplesOf layout R (now (r .entry))) (samplesOf layout G (now (g .entry))) (samplesOf layout B (now (b .entry)))) .answer ⌝ }
+    ensures slice { λ _. ⌜ now (dst .exit) ≡ over (now (dst .entry)) (packPicture rle width height (length (now (dst .entry))) (threePlanes (samplesOf layout R (now (r .entry))) (samplesOf layout G (now (g .entry))) (samplesOf layout B (now (b .entry)))) .written) ⌝ }
+{
+    let tested = test_colors(r, g, b, layout, width, height);
+    let Packed::Written(n) = tested else {
+        return tested;
+    };
+    if rle {
+        return compress_colors(r, g, b, layout, dst, 0, width, height);
+    }
+    if dst.len() <= 3 * n {
+        return Packed::Refused(Refusal::BufferTooSmall);
+    }
+    write_colors(r, g, b, layout, dst, 0, n);
+    Packed::Written(3 * n + 1)
+}
+
+// Four planes: A, R, G, B.
+pub(crate) fn encode_four(
+    r: &[u8],
+    g: &[u8],
+    b: &[u8],
+    a: &[u8],
+    layout: Layout,
+    dst: &mut [u8],
+    rle: bool,
+    width: usize,
+    height: usize,
+) -> Packed
+    ensures answer { λ p. ⌜ toldPacked p ≡ packPicture rle width height (length (now (dst .entry))) (fourPlanes (samplesOf layout R (now (r .entry))) (samplesOf layout G (now (g .entry))) (samplesOf layout B (now (b .entry))) (samplesOf layout A (now (a .entry)))) .answer ⌝ }
+    ensures slice { λ _. ⌜ now (dst .exit) ≡ over (now (dst .entry)) (packPicture rle width height (length (now (dst .entry))) (fourPlanes (samplesOf layout R (now (r .entry))) (samplesOf layout G (now (g .entry))) (samplesOf layout B (now (b .entry))) (samplesOf layout A (now (a .entry)))) .written) ⌝ }
+{
+    let tested = test_sources(r, g, b, a, layout, width, height);
+    let Packed::Written(n) = tested else {
+        return tested;
+    };
+    if rle {
+        let alpha = compress_next_plane(a, layout, Channel::A, dst, 0, width, height);
+        let Packed::Written(at) = alpha else {
+            return alpha;
+        };
+        return compress_colors(r, g, b, layout, dst, at, width, height);
+    }
+    if dst.len() <= 4 * n {
+        return Packed::Refused(Refusal::BufferTooSmall);
+    }
+    write_plane(a, layout, Channel::A, dst, 0, n);
+    write_colors(r, g, b, layout, dst, n, n);
+    Packed::Written(4 * n + 1)
+}

@@ -1,0 +1,62 @@
+// The RLE body: "planes follow one another with no Pad".
+ghost use mathlib.Core.Path.{_≡_};
+ghost use Prim.Native.Nat.{_*_, _≤_};
+ghost use lib.ListN.{length};
+ghost use Rattle.rle_format.specs.Answer.{toldPacked};
+ghost use Rattle.rle_format.specs.Pack.{planeSegments};
+ghost use Rattle.rle_format.proofs.Sides.{Within};
+ghost use Rattle.rle_encoder.specs.Written.{answerAt, sliceAt};
+ghost use Rattle.pixel_format.specs.declared.Channel.the-variants.{R, G, B};
+ghost use Rattle.pixel_format.specs.Channel.{samplesOf};
+ghost use Rattle.bitmap_format.specs.PackPicture.{threePlanes, pictureSegments};
+use pixel_format::Channel;
+use pixel_format::Layout;
+use rle_encoder::compress_8bpp_channel;
+use rle_format::Packed;
+
+// Packs a plane into dst from index `at` on, and answers the index behind it.
+pub(crate) fn compress_next_plane(
+    src: &[u8],
+    layout: Layout,
+    channel: Channel,
+    dst: &mut [u8],
+    at: usize,
+    width: usize,
+    height: usize,
+) -> Packed
+    requires { ⌜ Within width height × (width * height ≤ length (samplesOf layout channel (now src))) × (at ≤ length (now dst)) ⌝ }
+    ensures answer { λ p. ⌜ toldPacked p ≡ answerAt (planeSegments width height (samplesOf layout channel (now (src .entry)))) (now (dst .entry)) at ⌝ }
+    ensures slice { λ _. ⌜ now (dst .exit) ≡ sliceAt (planeSegments width height (samplesOf layout channel (now (src .entry)))) (now (dst .entry)) at ⌝ }
+{
+    let answer = compress_8bpp_channel(src, layout, channel, &mut dst[at..], width, height);
+    let Packed::Written(bytes) = answer else {
+        return answer;
+    };
+    Packed::Written(at + bytes)
+}
+
+// Packs R, G and B into dst from index `at` on, and answers the index behind them.
+pub(crate) fn compress_colors(
+    r: &[u8],
+    g: &[u8],
+    b: &[u8],
+    layout: Layout,
+    dst: &mut [u8],
+    at: usize,
+    width: usize,
+    height: usize,
+) -> Packed
+    requires { ⌜ Within width height × (width * height ≤ length (samplesOf layout R (now r))) × (width * height ≤ length (samplesOf layout G (now g))) × (width * height ≤ length (samplesOf layout B (now b))) × (at ≤ length (now dst)) ⌝ }
+    ensures answer { λ p. ⌜ toldPacked p ≡ answerAt (pictureSegments width height (threePlanes (samplesOf layout R (now (r .entry))) (samplesOf layout G (now (g .entry))) (samplesOf layout B (now (b .entry))))) (now (dst .entry)) at ⌝ }
+    ensures slice { λ _. ⌜ now (dst .exit) ≡ sliceAt (pictureSegments width height (threePlanes (samplesOf layout R (now (r .entry))) (samplesOf layout G (now (g .entry))) (samplesOf layout B (now (b .entry))))) (now (dst .entry)) at ⌝ }
+{
+    let red = compress_next_plane(r, layout, Channel::R, dst, at, width, height);
+    let Packed::Written(behind_r) = red else {
+        return red;
+    };
+    let green = compress_next_plane(g, layout, Channel::G, dst, behind_r, width, height);
+    let Packed::Written(behind_g) = green else {
+        return green;
+    };
+    compress_next_plane(b, layout, Channel::B, dst, behind_g, width, height)
+}
