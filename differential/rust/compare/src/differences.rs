@@ -4,8 +4,10 @@ use comparer::bytes;
 use comparer::case::Operation;
 use comparer::check::answer_text;
 use comparer::demand::{Demand, Plane};
+use comparer::encoding::{Encoding, OwnedEncoding, Sources};
 use comparer::picture::{OwnedPicture, Sizes};
 use comparer::{Case, Input, Owned};
+use original::{Encoded, Header};
 use std::process::ExitCode;
 
 /// A place and its inputs, the smallest that show it.
@@ -164,6 +166,7 @@ fn print_input(input: &Input) {
         Input::Call(case) => print_call(case),
         Input::Picture(case) => print_picture(case),
         Input::Sizes(case) => print_sizes(case),
+        Input::Encoding(case) => print_encoding(case),
         Input::Demand(case) => print_demand(case),
     }
 }
@@ -225,6 +228,27 @@ fn print_sizes(case: &Sizes) {
         )
     };
     println!("    the port: work area {work}, image {image}");
+}
+
+/// The Rust gets a destination with a byte in front, in which its header is left.
+fn print_encoding(case: &OwnedEncoding) {
+    let Encoding { width, height, rle, .. } = *case;
+    println!("  {case}");
+    let mut after = [&[0xEE], &case.before[..]].concat();
+    let Encoded { answer, header } = case.view().by_rust(&mut after);
+    let header = header.map_or("no header".to_owned(), header_text);
+    println!("    the Rust: {answer}, {header}, destination behind it {}", bytes::text(&after[1..]));
+    let mut after = case.before.clone();
+    let port = match case.sources.view() {
+        Sources::Channels { colours, alpha } => ours::encode_channels(colours, alpha, &mut after, rle, width, height),
+        Sources::Pixels { pixels, alpha } => ours::encode_bitmap(pixels, alpha, &mut after, rle, width, height),
+    };
+    println!("    the port: {}, destination {}", answer_text(port), bytes::text(&after));
+}
+
+fn header_text(header: Header) -> String {
+    let Header { rle, alpha, definition } = header;
+    format!("header RLE {} alpha {} {definition:?}", u8::from(rle), u8::from(alpha))
 }
 
 /// The packing that the rules make, what both packers make, what the demand wants of the bytes taken, what both unpackers do.

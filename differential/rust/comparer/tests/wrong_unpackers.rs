@@ -193,7 +193,7 @@ const SEARCH: Search = Search {
 
 /// The unpacker beside a right packer.
 fn with(unpack: Function) -> Library {
-    Library { unpack, pack: RIGHT_PACK, pictures: RIGHT_PICTURES }
+    Library { unpack, pack: RIGHT_PACK, pictures: RIGHT_PICTURES, encoders: RIGHT_ENCODERS }
 }
 
 fn is_found(unpacker: Function, smallest: &str) {

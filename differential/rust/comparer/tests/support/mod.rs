@@ -3,7 +3,9 @@
 #![allow(dead_code)]
 
 pub mod decoder;
+pub mod encoder;
 
+use comparer::encoding::check::Encoders;
 use comparer::picture::check::Pictures;
 use comparer::shrink::shrink;
 use comparer::{Case, Comparer, Difference, Function, Library, Outcome};
@@ -97,10 +99,11 @@ impl Call for RightPack {
     }
 }
 
-/// An unpacker, a packer and a picture decoder without a mistake.
+/// An unpacker, a packer, a picture decoder and picture encoders without a mistake.
 pub const RIGHT_UNPACK: Function = exported::<RightUnpack>;
 pub const RIGHT_PACK: Function = exported::<RightPack>;
 pub const RIGHT_PICTURES: Pictures = decoder::pictures::<decoder::Right>();
+pub const RIGHT_ENCODERS: Encoders = encoder::encoders::<encoder::Right>();
 
 /// The order in which the refusals at entry are tested: zero, large, short.
 pub fn first_refused(tests: [(bool, i64); 3], order: [usize; 3]) -> i64 {
