@@ -105,11 +105,12 @@ fn looks(comparer: &mut Comparer, earlier: &mut Earlier) -> Outcome {
     Ok(())
 }
 
-/// Rows and columns of 8,191 and 8,192: with some rooms, and each source short by one sample.
+/// Rows and columns of 8,191 and 8,192: with some rooms, and each source short by one byte. Nine rows have more than 65,536
+/// samples.
 fn long_sides(comparer: &mut Comparer, earlier: &mut Earlier) -> Outcome {
     let rng = &mut Rng::new(36);
     for side in [MAX_SIDE - 1, MAX_SIDE] {
-        for (sides, alpha) in [(side, 1), (1, side), (side, 2)].into_iter().zip([true, false, false]) {
+        for (sides, alpha) in [(side, 1), (1, side), (side, 2), (side, 9)].into_iter().zip([true, false, false, true]) {
             let planes = Planes::with_looks(rng, given::form(alpha), sides, &[Look::Runs, Look::FlatPage]);
             in_all_rooms(comparer, earlier, Kind::EncodingLongSides, sides, &planes, FEWER_SEGMENTS)?;
             for (owned, rle) in both(&planes).iter().flat_map(|owned| FORMS.map(|rle| (owned, rle))) {

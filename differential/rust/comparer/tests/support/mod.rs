@@ -5,8 +5,6 @@
 pub mod decoder;
 pub mod encoder;
 
-use comparer::encoding::check::Encoders;
-use comparer::picture::check::Pictures;
 use comparer::shrink::shrink;
 use comparer::{Case, Comparer, Difference, Function, Library, Outcome};
 
@@ -99,11 +97,15 @@ impl Call for RightPack {
     }
 }
 
-/// An unpacker, a packer, a picture decoder and picture encoders without a mistake.
 pub const RIGHT_UNPACK: Function = exported::<RightUnpack>;
-pub const RIGHT_PACK: Function = exported::<RightPack>;
-pub const RIGHT_PICTURES: Pictures = decoder::pictures::<decoder::Right>();
-pub const RIGHT_ENCODERS: Encoders = encoder::encoders::<encoder::Right>();
+
+/// A library without a mistake.
+pub const RIGHT_LIBRARY: Library = Library {
+    unpack: RIGHT_UNPACK,
+    pack: exported::<RightPack>,
+    pictures: decoder::pictures::<decoder::Right>(),
+    encoders: encoder::encoders::<encoder::Right>(),
+};
 
 /// The order in which the refusals at entry are tested: zero, large, short.
 pub fn first_refused(tests: [(bool, i64); 3], order: [usize; 3]) -> i64 {
