@@ -151,7 +151,8 @@ const ENCODING: [Place; 10] = [
             "iu 2 1 1 0 argb 1005200505200505 EE*6 EE*6",
             "pb 2 1 1 0 01020304 EE*6",
             "iu 2 1 1 0 argb 100310021001 EE*6 EE*6",
-            "pc 2 1 1 0505 0505 0505 05 EE*11",
+            "pc 2 1 1 02 0304 0506 01 EE*10",
+            "iu 2 1 1 0 argb 10011002200304200506 EE*6 EE*6",
         ],
     ),
     (
@@ -205,10 +206,14 @@ const ENCODING_ALIKE: [Place; 4] = [
         &["pb 1 1 0 0 01020304AABBCC EE*4", "pb 2 1 0 1 0102030405060708AABBCC EE*9", "pb 1 1 1 1 01020304AA EE*8"],
     ),
     (
-        "the header of four planes",
+        "the header of four planes, and what the decoder makes of them with alpha false and true",
         &[
             "pb 1 1 0 1 01020304 EE*5",
+            "iu 1 1 0 0 argb 0403020100 - EE*3",
+            "iu 1 1 0 1 argb 0403020100 - EE*3",
             "pb 1 1 1 1 01020304 EE*8",
+            "iu 1 1 1 0 argb 1004100310021001 EE*3 EE*3",
+            "iu 1 1 1 1 argb 1004100310021001 EE*3 EE*3",
             "pc 1 1 0 03 02 01 04 EE*5",
             "pc 1 1 1 03 02 01 04 EE*8",
         ],
