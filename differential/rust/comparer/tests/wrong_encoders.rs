@@ -915,7 +915,7 @@ wrong!(bytes_counted_for_pixels, "pb 1 1 0 0 00 -", {
 
 wrong!(a_part_of_a_pixel_refused, "pb 1 1 0 0 00*5 -", {
     fn is_short(call: &Call) -> bool {
-        Right::is_short(call) || call.is_bitmap() && call.slices()[0].len % 4 != 0
+        Right::is_short(call) || call.is_bitmap() && !call.slices()[0].len.is_multiple_of(4)
     }
 });
 

@@ -156,7 +156,7 @@ impl<Bytes: AsRef<[u8]>> Encoding<Bytes> {
     }
 }
 
-impl<'a> Encoding<&'a [u8]> {
+impl Encoding<&[u8]> {
     /// The case that document 01 makes of one that is not refused at entry: each source has the first width times height
     /// samples. It is inside the domain.
     pub fn with_first_samples(self) -> Self {
