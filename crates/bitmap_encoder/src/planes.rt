@@ -4,9 +4,8 @@ ghost use mathlib.Core.Path.{_≡_};
 ghost use lib.ListN.{length};
 ghost use Rattle.rle_format.specs.Answer.{toldPacked};
 ghost use Rattle.rle_format.specs.Slice.{over};
-ghost use Rattle.pixel_format.specs.declared.Channel.the-variants.{R, G, B, A};
-ghost use Rattle.pixel_format.specs.Channel.{samplesOf};
-ghost use Rattle.bitmap_format.specs.PackPicture.{threePlanes, fourPlanes, packPicture};
+ghost use Rattle.bitmap_format.specs.PackPicture.{packPicture};
+ghost use Rattle.bitmap_encoder.specs.Sources.{threeOf, fourOf};
 use crate::raw::write_colors;
 use crate::raw::write_plane;
 use crate::rle::compress_colors;
@@ -29,8 +28,8 @@ pub(crate) fn encode_three(
     width: usize,
     height: usize,
 ) -> Packed
-    ensures answer { λ p. ⌜ toldPacked p ≡ packPicture rle width height (length (now (dst .entry))) (threePlanes (samplesOf layout R (now (r .entry))) (samplesOf layout G (now (g .entry))) (samplesOf layout B (now (b .entry)))) .answer ⌝ }
-    ensures slice { λ _. ⌜ now (dst .exit) ≡ over (now (dst .entry)) (packPicture rle width height (length (now (dst .entry))) (threePlanes (samplesOf layout R (now (r .entry))) (samplesOf layout G (now (g .entry))) (samplesOf layout B (now (b .entry)))) .written) ⌝ }
+    ensures answer { λ p. ⌜ toldPacked p ≡ packPicture rle width height (length (now (dst .entry))) (threeOf layout (now (r .entry)) (now (g .entry)) (now (b .entry))) .answer ⌝ }
+    ensures slice { λ _. ⌜ now (dst .exit) ≡ over (now (dst .entry)) (packPicture rle width height (length (now (dst .entry))) (threeOf layout (now (r .entry)) (now (g .entry)) (now (b .entry))) .written) ⌝ }
 {
     let tested = test_colors(r, g, b, layout, width, height);
     let Packed::Written(n) = tested else {
@@ -58,8 +57,8 @@ pub(crate) fn encode_four(
     width: usize,
     height: usize,
 ) -> Packed
-    ensures answer { λ p. ⌜ toldPacked p ≡ packPicture rle width height (length (now (dst .entry))) (fourPlanes (samplesOf layout R (now (r .entry))) (samplesOf layout G (now (g .entry))) (samplesOf layout B (now (b .entry))) (samplesOf layout A (now (a .entry)))) .answer ⌝ }
-    ensures slice { λ _. ⌜ now (dst .exit) ≡ over (now (dst .entry)) (packPicture rle width height (length (now (dst .entry))) (fourPlanes (samplesOf layout R (now (r .entry))) (samplesOf layout G (now (g .entry))) (samplesOf layout B (now (b .entry))) (samplesOf layout A (now (a .entry)))) .written) ⌝ }
+    ensures answer { λ p. ⌜ toldPacked p ≡ packPicture rle width height (length (now (dst .entry))) (fourOf layout (now (r .entry)) (now (g .entry)) (now (b .entry)) (now (a .entry))) .answer ⌝ }
+    ensures slice { λ _. ⌜ now (dst .exit) ≡ over (now (dst .entry)) (packPicture rle width height (length (now (dst .entry))) (fourOf layout (now (r .entry)) (now (g .entry)) (now (b .entry)) (now (a .entry))) .written) ⌝ }
 {
     let tested = test_sources(r, g, b, a, layout, width, height);
     let Packed::Written(n) = tested else {

@@ -5,7 +5,8 @@ ghost use lib.ListN.{length, take};
 ghost use Rattle.rle_format.specs.Slice.{putAt};
 ghost use Rattle.pixel_format.specs.declared.Channel.the-variants.{R, G, B};
 ghost use Rattle.pixel_format.specs.Channel.{samplesOf};
-ghost use Rattle.bitmap_format.specs.PackPicture.{threePlanes, rawBody};
+ghost use Rattle.bitmap_format.specs.PackPicture.{rawBody};
+ghost use Rattle.bitmap_encoder.specs.Sources.{threeOf};
 use pixel_format::Channel;
 use pixel_format::Layout;
 use pixel_format::read_samples;
@@ -36,7 +37,7 @@ pub(crate) fn write_colors(
     n: usize,
 )
     requires { ⌜ (n ≤ length (samplesOf layout R (now r))) × (n ≤ length (samplesOf layout G (now g))) × (n ≤ length (samplesOf layout B (now b))) × (at + 3 * n < length (now dst)) ⌝ }
-    ensures { λ _. ⌜ now (dst .exit) ≡ putAt (now (dst .entry)) at (rawBody n (threePlanes (samplesOf layout R (now (r .entry))) (samplesOf layout G (now (g .entry))) (samplesOf layout B (now (b .entry))))) ⌝ }
+    ensures { λ _. ⌜ now (dst .exit) ≡ putAt (now (dst .entry)) at (rawBody n (threeOf layout (now (r .entry)) (now (g .entry)) (now (b .entry)))) ⌝ }
 {
     write_plane(r, layout, Channel::R, dst, at, n);
     write_plane(g, layout, Channel::G, dst, at + n, n);

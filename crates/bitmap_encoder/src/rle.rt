@@ -8,7 +8,8 @@ ghost use Rattle.rle_format.proofs.Sides.{Within};
 ghost use Rattle.rle_encoder.specs.Written.{answerAt, sliceAt};
 ghost use Rattle.pixel_format.specs.declared.Channel.the-variants.{R, G, B};
 ghost use Rattle.pixel_format.specs.Channel.{samplesOf};
-ghost use Rattle.bitmap_format.specs.PackPicture.{threePlanes, pictureSegments};
+ghost use Rattle.bitmap_format.specs.PackPicture.{pictureSegments};
+ghost use Rattle.bitmap_encoder.specs.Sources.{threeOf};
 use pixel_format::Channel;
 use pixel_format::Layout;
 use rle_encoder::compress_8bpp_channel;
@@ -47,8 +48,8 @@ pub(crate) fn compress_colors(
     height: usize,
 ) -> Packed
     requires { ⌜ Within width height × (width * height ≤ length (samplesOf layout R (now r))) × (width * height ≤ length (samplesOf layout G (now g))) × (width * height ≤ length (samplesOf layout B (now b))) × (at ≤ length (now dst)) ⌝ }
-    ensures answer { λ p. ⌜ toldPacked p ≡ answerAt (pictureSegments width height (threePlanes (samplesOf layout R (now (r .entry))) (samplesOf layout G (now (g .entry))) (samplesOf layout B (now (b .entry))))) (now (dst .entry)) at ⌝ }
-    ensures slice { λ _. ⌜ now (dst .exit) ≡ sliceAt (pictureSegments width height (threePlanes (samplesOf layout R (now (r .entry))) (samplesOf layout G (now (g .entry))) (samplesOf layout B (now (b .entry))))) (now (dst .entry)) at ⌝ }
+    ensures answer { λ p. ⌜ toldPacked p ≡ answerAt (pictureSegments width height (threeOf layout (now (r .entry)) (now (g .entry)) (now (b .entry)))) (now (dst .entry)) at ⌝ }
+    ensures slice { λ _. ⌜ now (dst .exit) ≡ sliceAt (pictureSegments width height (threeOf layout (now (r .entry)) (now (g .entry)) (now (b .entry)))) (now (dst .entry)) at ⌝ }
 {
     let red = compress_next_plane(r, layout, Channel::R, dst, at, width, height);
     let Packed::Written(behind_r) = red else {

@@ -1,10 +1,8 @@
 // The tests before anything is written: refusals 1, 2 and 11.
 ghost use mathlib.Core.Path.{_≡_};
 ghost use Rattle.rle_format.specs.Answer.{toldPacked};
-ghost use Rattle.pixel_format.specs.declared.Channel.the-variants.{R, G, B, A};
-ghost use Rattle.pixel_format.specs.Channel.{samplesOf};
-ghost use Rattle.bitmap_format.specs.PackPicture.{threePlanes, fourPlanes};
-ghost use Rattle.bitmap_encoder.specs.Tested.{sidesTested, sourcesTested};
+ghost use Rattle.bitmap_format.specs.PackPicture.{packTested};
+ghost use Rattle.bitmap_encoder.specs.Sources.{threeOf, fourOf, sidesTested};
 use pixel_format::Layout;
 use pixel_format::sample_count;
 use rle_format::MAX_SIDE;
@@ -39,7 +37,7 @@ pub(crate) fn test_colors(
     width: usize,
     height: usize,
 ) -> Packed
-    ensures { λ p. ⌜ toldPacked p ≡ sourcesTested width height (threePlanes (samplesOf layout R (now (r .entry))) (samplesOf layout G (now (g .entry))) (samplesOf layout B (now (b .entry)))) ⌝ }
+    ensures { λ p. ⌜ toldPacked p ≡ packTested width height (threeOf layout (now (r .entry)) (now (g .entry)) (now (b .entry))) ⌝ }
 {
     let tested = test_sides(width, height);
     let Packed::Written(n) = tested else {
@@ -67,7 +65,7 @@ pub(crate) fn test_sources(
     width: usize,
     height: usize,
 ) -> Packed
-    ensures { λ p. ⌜ toldPacked p ≡ sourcesTested width height (fourPlanes (samplesOf layout R (now (r .entry))) (samplesOf layout G (now (g .entry))) (samplesOf layout B (now (b .entry))) (samplesOf layout A (now (a .entry)))) ⌝ }
+    ensures { λ p. ⌜ toldPacked p ≡ packTested width height (fourOf layout (now (r .entry)) (now (g .entry)) (now (b .entry)) (now (a .entry))) ⌝ }
 {
     let tested = test_colors(r, g, b, layout, width, height);
     let Packed::Written(n) = tested else {

@@ -8,3 +8,4 @@ pub mod Image
 pub mod UnpackPlanes
 pub mod Tested
 pub mod Picture
+pub mod PackPicture

@@ -16,6 +16,7 @@ use Rattle.bitmap_format.specs.declared.BitmapStreamHeader.{BitmapStream
 use Rattle.bitmap_format.specs.declared.ColorPlaneDefinition.the-variants.{Argb}
 use Rattle.bitmap_format.specs.declared.Encoded.{Encoded}
 use Rattle.bitmap_format.specs.declared.Encoded.the-variants.{Written, Refused}
+use Rattle.bitmap_format.specs.Tests.{Test, test, downwards}
 
 -- ---- the planes, each as the list of its samples
 
@@ -49,7 +50,7 @@ rawPlanes n (p ∷ planes) = take n p ++ rawPlanes n planes
 unfoldable pub rawBody : (n : ℕ) (planes : List (List ℕ)) → List ℕ
 rawBody n planes = rawPlanes n planes ++ 0 ∷ []
 
--- a body written into `room` bytes, or not at all; 12: "the whole raw body, does not fit"
+-- a body written into `room` bytes, or none of it; 12: "the whole raw body, does not fit"
 unfoldable pub writeWhole : (body : List ℕ) (room : ℕ) → Outcome
 writeWhole body room = choose (ltb room (length body)) (refuse 12) (record { written = body; answer = counted (length body) })
 
@@ -60,13 +61,26 @@ unfoldable pub someShort : (n : ℕ) (planes : List (List ℕ)) → Bool
 someShort n [] = false
 someShort n (p ∷ planes) = ltb (length p) n || someShort n planes
 
--- the table's tests, downwards: 1, 2 and 11; then the body. `room` is the length of the destination
+-- the table's line for a packer, below those of every entry. n is the number of samples of a plane
+abbrev pub packTests : (n : ℕ) (planes : List (List ℕ)) → List Test
+packTests n planes = test 11 (someShort n planes) ∷ []
+
+-- what the tests answer: the number of the first that refuses, or the samples of a plane
+unfoldable pub packTested : (width height : ℕ) (planes : List (List ℕ)) → Answer
+packTested width height planes = withinSides refused width height (downwards (packTests (width * height) planes) (counted (width * height)))
+
+-- the body into `room` bytes; 12 after all others
+unfoldable pub packBody : (rle : Bool) (width height room : ℕ) (planes : List (List ℕ)) → Outcome
+packBody rle width height room planes =
+    choose rle (writeSegments (pictureSegments width height planes) room) (writeWhole (rawBody (width * height) planes) room)
+
+-- "Refusals 1 to 6, 10 and 11 change no slice"
 unfoldable pub packPicture : (rle : Bool) (width height room : ℕ) (planes : List (List ℕ)) → Outcome
 packPicture rle width height room planes =
-    withinSides refuse width height
-    (choose (someShort (width * height) planes)
-    (refuse 11)
-    (choose rle (writeSegments (pictureSegments width height planes) room) (writeWhole (rawBody (width * height) planes) room)))
+    elim (packTested width height planes) [
+      | refused r ↦ refuse r
+      | counted n ↦ packBody rle width height room planes
+    ]
 
 -- ---- the answer
 
