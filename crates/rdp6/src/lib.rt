@@ -208,7 +208,16 @@ pub extern "C" fn rdp6_encode_channels_stream_alpha(
     ensures answer { λ n. ⌜ n ≡ cNumber (packPicture rle width height (length (now (dst .entry))) (fourPlanes (now (r .entry)) (now (g .entry)) (now (b .entry)) (now (a .entry))) .answer) ⌝ }
     ensures slice { λ _. ⌜ now (dst .exit) ≡ over (now (dst .entry)) (packPicture rle width height (length (now (dst .entry))) (fourPlanes (now (r .entry)) (now (g .entry)) (now (b .entry)) (now (a .entry))) .written) ⌝ }
 {
-    encoded_number(bitmap_encoder::encode_channels_stream_alpha(r, g, b, a, dst, rle, width, height))
+    encoded_number(bitmap_encoder::encode_channels_stream_alpha(
+        r,
+        g,
+        b,
+        a,
+        dst,
+        rle,
+        width,
+        height,
+    ))
 }
 
 #[no_mangle]

@@ -82,6 +82,15 @@ struct Field {
     next: usize,
 }
 
+// The same of the fields that are given. Pixels stand where R does.
+struct Given {
+    r: usize,
+    g: usize,
+    b: usize,
+    a: usize,
+    next: usize,
+}
+
 // Replays the case that a line tells.
 pub(crate) fn replay(source: Source, line: &[u8]) -> Outcome {
     let Head::Of(case) = read_head(source, line) else {
@@ -105,7 +114,7 @@ pub(crate) fn replay(source: Source, line: &[u8]) -> Outcome {
     )
 }
 
-// The same with the case's numbers, and with room for its bytes. Pixels are read to where R is.
+// The same with the case's numbers, and with room for its bytes.
 fn replay_in(
     case: Case,
     line: &[u8],
@@ -118,25 +127,22 @@ fn replay_in(
 ) -> Outcome
     requires { ⌜ length (now after) + 32 ≤ length (now dst) ⌝ }
 {
-    let red = next_field(line, case.next, r);
-    let green = next_channel(case, line, red.next, g);
-    let blue = next_channel(case, line, green.next, b);
-    let alpha = next_channel(case, line, blue.next, a);
-    let end = next_field(line, alpha.next, after);
-    if !is_whole(case, alpha, end, line) {
+    let given = read_given(case, line, r, g, b, a);
+    let last = next_field(line, given.next, after);
+    if !is_whole(case, given.a, last, line) {
         return Outcome::Malformed;
     }
-    let r_len = red.count;
-    let g_len = green.count;
-    let b_len = blue.count;
-    let a_len = alpha.count;
-    let room = end.count;
+    let r_end = given.r;
+    let g_end = given.g;
+    let b_end = given.b;
+    let a_end = given.a;
+    let room = last.count;
     run(
         case,
-        &r[0..r_len],
-        &g[0..g_len],
-        &b[0..b_len],
-        &a[0..a_len],
+        &r[0..r_end],
+        &g[0..g_end],
+        &b[0..b_end],
+        &a[0..a_end],
         dst,
         &after[0..room],
     )
@@ -151,7 +157,12 @@ fn read_head(source: Source, line: &[u8]) -> Head {
         return Head::Malformed;
     };
     let end = read::next_numbers(line, next, BEHIND, &mut sent);
-    if !picture::are_flags(numbers[RLE], numbers[ALPHA], sent[SENT_RLE], sent[SENT_ALPHA]) {
+    if !picture::are_flags(
+        numbers[RLE],
+        numbers[ALPHA],
+        sent[SENT_RLE],
+        sent[SENT_ALPHA],
+    ) {
         return Head::Malformed;
     }
     if 1 < sent[SENT_DEFINITION] {
@@ -175,6 +186,30 @@ fn read_head(source: Source, line: &[u8]) -> Head {
         },
         next: end,
     })
+}
+
+// Reads the bytes that are given.
+fn read_given(
+    case: Case,
+    line: &[u8],
+    r: &mut [u8],
+    g: &mut [u8],
+    b: &mut [u8],
+    a: &mut [u8],
+) -> Given
+    ensures { λ s. ⌜ (s .r ≤ length (now (r .entry))) × (s .g ≤ length (now (g .entry))) × (s .b ≤ length (now (b .entry))) × (s .a ≤ length (now (a .entry))) ⌝ }
+{
+    let red = next_field(line, case.next, r);
+    let green = next_channel(case, line, red.next, g);
+    let blue = next_channel(case, line, green.next, b);
+    let alpha = next_channel(case, line, blue.next, a);
+    Given {
+        r: red.count,
+        g: green.count,
+        b: blue.count,
+        a: alpha.count,
+        next: alpha.next,
+    }
 }
 
 // Reads the bytes at `at` to the start of into. Behind malformed ones the place is outside every line: nothing more is read,
@@ -203,20 +238,12 @@ fn next_channel(case: Case, line: &[u8], at: usize, into: &mut [u8]) -> Field
 }
 
 // Whether the line ends behind AFTER, AFTER has as many bytes as the destination, and A is there only if it is packed.
-fn is_whole(case: Case, alpha: Field, end: Field, line: &[u8]) -> bool {
-    end.next == line.len() && end.count == case.room && (case.alpha || alpha.count == 0)
+fn is_whole(case: Case, a: usize, last: Field, line: &[u8]) -> bool {
+    last.next == line.len() && last.count == case.room && (case.alpha || a == 0)
 }
 
 // Runs the case on a part of dst, as long as after, and compares all that there is to see.
-fn run(
-    case: Case,
-    r: &[u8],
-    g: &[u8],
-    b: &[u8],
-    a: &[u8],
-    dst: &mut [u8],
-    after: &[u8],
-) -> Outcome
+fn run(case: Case, r: &[u8], g: &[u8], b: &[u8], a: &[u8], dst: &mut [u8], after: &[u8]) -> Outcome
     requires { ⌜ length (now after) + 32 ≤ length (now dst) ⌝ }
 {
     let encoded = called(case, r, g, b, a, &mut dst[MARGIN..MARGIN + after.len()]);
