@@ -1,8 +1,6 @@
--- The planes of a picture by the slices of its channels, and what the tests of the sides answer. The public contracts cite none of these words.
-use Prim.Native.Nat.{ℕ, _*_}
+-- The planes of a picture by the slices of its channels. The public contracts cite none of these words.
+use Prim.Native.Nat.{ℕ}
 use mathlib.Core.List.{List}
-use Rattle.rle_format.specs.Sides.{withinSides}
-use Rattle.rle_format.specs.Answer.{Answer, counted, refused}
 use Rattle.pixel_format.specs.declared.Channel.the-variants.{R, G, B, A}
 use Rattle.pixel_format.specs.declared.Layout.{Layout}
 use Rattle.pixel_format.specs.Channel.{samplesOf}
@@ -14,7 +12,3 @@ threeOf layout r g b = threePlanes (samplesOf layout R r) (samplesOf layout G g)
 
 abbrev pub fourOf : Layout → (r g b a : List ℕ) → List (List ℕ)
 fourOf layout r g b a = fourPlanes (samplesOf layout R r) (samplesOf layout G g) (samplesOf layout B b) (samplesOf layout A a)
-
--- the number of the first test of the sides that refuses, or the samples of a plane
-unfoldable pub sidesTested : (width height : ℕ) → Answer
-sidesTested width height = withinSides refused width height (counted (width * height))

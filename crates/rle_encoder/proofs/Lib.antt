@@ -1,5 +1,5 @@
 mod Head
-mod Samples
+mod Replaced
 mod Steps
 mod Scan
 mod Rows

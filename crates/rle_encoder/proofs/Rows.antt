@@ -1,24 +1,21 @@
 -- The rows of a plane, as the packer's outer loop goes through them.
 use mathlib.Core.Path.{_≡_, refl, sym, ap, _∙_}
-use mathlib.Core.Logic.{⊎-elim}
 use mathlib.Core.List.{List, [], _∷_, _++_, append-assoc, append-nil}
 use Prim.Native.Nat.{ℕ, zero, suc, _+_, _*_, _-_, _≤_, _<_}
-use native.Mathlib.Nat.{zero-add, mul-comm, mul-assoc, mul-one, mul-le-mul-right, add-mul}
+use native.Mathlib.Nat.{zero-add, mul-comm, mul-le-mul-right}
 use native.Mathlib.Omega.{arith}
-use lib.ListN.{length, take, drop, getD, length-drop, List·getD-append}
-use lib.Seq.{take-at, getD-at, getD-take, getD-drop, ext-getD, length-take-le}
+use lib.ListN.{length, take, drop, length-append, length-drop, drop-of-length-le}
+use lib.Seq.{take-at, length-take-le}
 use Rattle.rle_format.specs.declared.Packed.{Packed}
 use Rattle.rle_format.specs.Answer.{Answer, counted, refused, more, toldPacked}
 use Rattle.rle_format.specs.Slice.{over, putAt}
 use Rattle.rle_format.specs.Delta.{deltaCode, columns}
 use Rattle.rle_format.specs.Segment.{Segment}
 use Rattle.rle_format.specs.Pack.{rowSegments, rowAt, codesAt, planeSegments, writeSegments}
-use Rattle.rle_format.proofs.Cases.{le-or-gt}
-use Rattle.rle_format.proofs.RowAt.{row-front}
-use Rattle.rle_encoder.specs.Samples.{spaced, rowOf, codesOf}
+use Rattle.rle_format.proofs.Delta.{length-columns}
+use Rattle.rle_encoder.specs.Coded.{coded}
 use Rattle.rle_encoder.specs.Written.{answerAt, sliceAt}
 use Rattle.rle_encoder.proofs.Head.{Wrote}
-use Rattle.rle_encoder.proofs.Samples.{length-spaced, length-codedFrom}
 
 -- ---- rows from the top, and rows from row r on
 
@@ -57,107 +54,110 @@ module _ (width : ℕ) (samples : List ℕ) where
   rows-none r zero e = refl
   rows-none r (suc k) e = absurd (omega arith)
 
--- ---- a row of samples that stand a stride apart
+-- ---- the first places of a local array, lent to a call: `&mut d[0..n]`
 
-getD-spaced : (from stride n : ℕ) (d : List ℕ) (i : ℕ) → i < n → getD (spaced from stride n d) i 0 ≡ getD d (from + i * stride) 0
-unfolding spaced
-getD-spaced from stride zero d i h = absurd (omega arith)
-getD-spaced from stride (suc n) d i h =
-    let len = length-spaced from stride n d in
-    ⊎-elim
-    (λ (l : i < n). List·getD-append (spaced from stride n d) (getD d (from + n * stride) 0 ∷ []) 0 i (omega arith) ∙ getD-spaced from stride n d i l)
-    (λ (l : n < suc i).
-    let e : i ≡ n = omega arith in
-    getD-at (spaced from stride n d) (getD d (from + n * stride) 0) [] 0 i (len ∙ sym e) ∙ ap (λ (k : ℕ). getD d (from + k * stride) 0) (sym e))
-    (le-or-gt (suc i) n)
+abbrev pub first : (d : List ℕ) (n : ℕ) → List ℕ
+first d n = take (n - 0) (drop 0 d)
 
-row-end : (r width height : ℕ) → r < height → r * width + width ≤ width * height
+-- and the array after the call, which left ys there
+abbrev pub with-first : (d : List ℕ) (n : ℕ) (ys : List ℕ) → List ℕ
+with-first d n ys = take 0 d ++ (ys ++ drop (n - 0) (drop 0 d))
+
+first-is : (d : List ℕ) (n : ℕ) → first d n ≡ take n d
+first-is d n = let z : n - 0 ≡ n = omega arith in ap (λ (k : ℕ). take k d) z
+
+pub length-first : (d : List ℕ) (n : ℕ) → n ≤ length d → length (first d n) ≡ n
+length-first d n h = ap length (first-is d n) ∙ length-take-le n d h
+
+take-with-first : (d : List ℕ) (n : ℕ) (ys : List ℕ) → length ys ≡ n → take n (with-first d n ys) ≡ ys
+take-with-first d n ys e = take-at ys (drop (n - 0) d) n e
+
+pub first-with-first : (d : List ℕ) (n : ℕ) (ys : List ℕ) → length ys ≡ n → first (with-first d n ys) n ≡ ys
+first-with-first d n ys e = first-is (with-first d n ys) n ∙ take-with-first d n ys e
+
+pub length-with-first : (d : List ℕ) (n : ℕ) (ys : List ℕ) → n ≤ length d → length ys ≡ n → length (with-first d n ys) ≡ length d
+length-with-first d n ys h e = simp (length-append, length-drop) (omega arith)
+
+-- ---- a row, read and coded
+
+pub row-end : (r width height : ℕ) → r < height → r * width + width ≤ width * height
 row-end r width height h = let e : suc r * width ≤ height * width = mul-le-mul-right width h in omega (arith, mul-comm width height)
 
-row-spaced : (start stride width n : ℕ) (d : List ℕ) (r : ℕ) → r * width + width ≤ n → rowAt width (spaced start stride n d) r ≡ rowOf start stride width d r
+length-row : (width : ℕ) (samples : List ℕ) (r : ℕ) → r * width + width ≤ length samples → length (rowAt width samples r) ≡ width
 unfolding rowAt
-row-spaced start stride width n d r h =
-    let from : ℕ = start + r * (width * stride) in
-    let len = length-spaced start stride n d in
-    let long : length (take width (drop (r * width) (spaced start stride n d))) ≡ width =
-    length-take-le width (drop (r * width) (spaced start stride n d)) (omega (arith, length-drop (r * width) (spaced start stride n d))) in
-    ext-getD 0 (take width (drop (r * width) (spaced start stride n d))) (spaced from stride width d) (long ∙ sym (length-spaced from stride width d))
-    (λ j k.
-    getD-take width (drop (r * width) (spaced start stride n d)) j 0 (omega arith)
-    ∙ getD-drop (r * width) (spaced start stride n d) j 0
-    ∙ getD-spaced start stride n d (r * width + j) (omega arith)
-    ∙ ap (λ (k : ℕ). getD d k 0) (place j)
-    ∙ sym (getD-spaced from stride width d j (omega arith)))
-  where
-    place : (j : ℕ) → start + (r * width + j) * stride ≡ start + r * (width * stride) + j * stride
-    place j = let e = add-mul (r * width) j stride in let f = mul-assoc r width stride in omega arith
+length-row width samples r h = length-take-le width (drop (r * width) samples) (omega (arith, length-drop (r * width) samples))
 
--- its coded values are those of the plane's row
-codes-are : (start stride width height : ℕ) (d : List ℕ) (r : ℕ) → r < height
-    → codesOf start stride width d r ≡ codesAt width (spaced start stride (width * height) d) r
-unfolding codesOf codesAt
-codes-are start stride width height d zero h = sym (row-spaced start stride width (width * height) d 0 (row-end 0 width height h))
-codes-are start stride width height d (suc r) h =
-    let above = row-spaced start stride width (width * height) d r (row-end r width height (omega arith)) in
-    let row = row-spaced start stride width (width * height) d (suc r) (row-end (suc r) width height h) in
-    λ i. columns deltaCode (sym above i) (sym row i)
+-- samples that fill the places that they are read into
+row-read : (width : ℕ) (samples : List ℕ) (r : ℕ) (d got : List ℕ) → length d ≡ width → r * width + width ≤ length samples
+    → got ≡ over d (take (length d) (drop (r * width) samples)) → got ≡ rowAt width samples r
+unfolding over rowAt
+row-read width samples r d got e h is =
+    let row : List ℕ = rowAt width samples r in
+    let full : length d ≤ length row = omega (arith, length-row width samples r h) in
+    let none : drop (length row) d ≡ [] = drop-of-length-le d full in
+    is ∙ ap (λ (n : ℕ). over d (take n (drop (r * width) samples))) e ∙ ap (λ (l : List ℕ). row ++ l) none ∙ append-nil row
 
-length-codesOf : (start stride width : ℕ) (d : List ℕ) (r : ℕ) → length (codesOf start stride width d r) ≡ width
-unfolding codesOf
-length-codesOf start stride width d zero = length-spaced (start + 0 * (width * stride)) stride width d
-length-codesOf start stride width d (suc r) = length-codedFrom (start + r * (width * stride)) (start + suc r * (width * stride)) stride width d
+pub coded-first : (r : ℕ) (above row : List ℕ) → r ≡ 0 → row ≡ coded r above row
+coded-first zero above row e = refl
+coded-first (suc r) above row e = absurd (omega arith)
 
--- what was written over the first places is lent to the row's packer
-first-part : (codes new : List ℕ) (width : ℕ) → length new ≡ width → take (width - 0) (drop 0 (over codes new)) ≡ new
-unfolding over
-first-part codes new width e =
-    let z : width - 0 ≡ width = omega arith in
-    rw z (take-at new (drop (length new) codes) width e)
+pub coded-later : (r : ℕ) (above row : List ℕ) → (r ≡ 0 → ⊥) → columns deltaCode above row ≡ coded r above row
+coded-later zero above row e = absurd (e refl)
+coded-later (suc r) above row e = refl
 
--- so that it packs the plane's row
-pub row-wrote : (start stride width height : ℕ) (samples codes coded : List ℕ) (r : ℕ) (d now : List ℕ) (to : ℕ) (answer : Packed) → r < height
-    → coded ≡ over codes (codesOf start stride width samples r) → Wrote (rowSegments (take (width - 0) (drop 0 coded))) d now to answer
-    → Wrote (rowSegments (codesAt width (spaced start stride (width * height) samples) r)) d now to answer
-row-wrote start stride width height samples codes coded r d now to answer h e w =
-    let row : take (width - 0) (drop 0 coded) ≡ codesAt width (spaced start stride (width * height) samples) r =
-    ap (λ (l : List ℕ). take (width - 0) (drop 0 l)) e
-    ∙ first-part codes (codesOf start stride width samples r) width (length-codesOf start stride width samples r)
-    ∙ codes-are start stride width height samples r h
-    in
-    (w .0 ∙ ap (λ (l : List ℕ). answerAt (rowSegments l) d to) row, w .1 ∙ ap (λ (l : List ℕ). sliceAt (rowSegments l) d to) row)
+length-coded : (r : ℕ) (above row : List ℕ) → length above ≡ length row → length (coded r above row) ≡ length row
+length-coded zero above row e = refl
+length-coded (suc r) above row e = length-columns deltaCode above row e
 
--- ---- a plane by itself: its samples stand one apart, from the first on
+-- an array has the samples of the row above row r, if there is one
+abbrev pub HasRowAbove : (width : ℕ) (samples : List ℕ) (r : ℕ) (above : List ℕ) → Type 0
+HasRowAbove width samples r above = 0 < r → take width above ≡ rowAt width samples (r - 1)
 
-spaced-one : (n : ℕ) (d : List ℕ) → n ≤ length d → spaced 0 1 n d ≡ take n d
-spaced-one n d h =
-    let l = length-take-le n d h in
-    let m = length-spaced 0 1 n d in
-    ext-getD 0 (spaced 0 1 n d) (take n d) (m ∙ sym l)
-    (λ i k.
-    getD-spaced 0 1 n d i (omega arith)
-    ∙ ap (λ (p : ℕ). getD d p 0) (zero-add (i * 1) ∙ mul-one i)
-    ∙ sym (getD-take n d i 0 (omega arith)))
-
--- the rows of a plane are told by its first samples
-row-of-first : (width n r : ℕ) (d : List ℕ) → n ≤ length d → suc r * width ≤ n → rowAt width (take n d) r ≡ rowAt width d r
-row-of-first width n r d k h = ap (λ (l : List ℕ). rowAt width l r) (sym (append-nil (take n d))) ∙ row-front width r n d [] h k
-
-codes-of-first : (width n r : ℕ) (d : List ℕ) → n ≤ length d → suc r * width ≤ n → codesAt width (take n d) r ≡ codesAt width d r
+-- so that its coded values are those of the plane's row
+coded-is : (width : ℕ) (samples : List ℕ) (r : ℕ) (above : List ℕ) → HasRowAbove width samples r above
+    → coded r (take width above) (rowAt width samples r) ≡ codesAt width samples r
 unfolding codesAt
-codes-of-first width n zero d k h = row-of-first width n 0 d k h
-codes-of-first width n (suc r) d k h = λ i. columns deltaCode (row-of-first width n r d k (omega arith) i) (row-of-first width n (suc r) d k h i)
+coded-is width samples zero above h = refl
+coded-is width samples (suc r) above h =
+    let e : suc r - 1 ≡ r = omega arith in
+    ap (λ (l : List ℕ). columns deltaCode l (rowAt width samples (suc r))) (h (omega arith) ∙ ap (rowAt width samples) e)
 
-segments-of-first : (width n rows : ℕ) (d : List ℕ) → n ≤ length d → rows * width ≤ n → planeSegments width rows (take n d) ≡ planeSegments width rows d
-unfolding planeSegments
-segments-of-first width n zero d k h = refl
-segments-of-first width n (suc rows) d k h =
-    λ i. segments-of-first width n rows d k (omega arith) i ++ rowSegments (codes-of-first width n rows d k h i)
+-- two arrays of n places after row r was read and coded
+pub record RowCoded (width n : ℕ) (samples : List ℕ) (r : ℕ) (above codes : List ℕ) : Type 0 where
+  pub row : first codes width ≡ codesAt width samples r
+  pub kept : HasRowAbove width samples (r + 1) above
+  pub len-above : length above ≡ n
+  pub len-codes : length codes ≡ n
 
-pub plane-by-itself : (width height : ℕ) (d : List ℕ) → width * height ≤ length d
-    → planeSegments width height (spaced 0 1 (width * height) d) ≡ planeSegments width height d
-plane-by-itself width height d h =
-    ap (planeSegments width height) (spaced-one (width * height) d h)
-    ∙ segments-of-first width (width * height) height d h (omega (arith, mul-comm width height))
+-- they are so where `got` was read into the codes' places, and then `new` was left there and `sampled` in those above
+pub row-coded : (width n : ℕ) (samples : List ℕ) (r : ℕ) (above codes got new sampled : List ℕ) → width ≤ n → length above ≡ n → length codes ≡ n
+    → r * width + width ≤ length samples → HasRowAbove width samples r above
+    → got ≡ over (first codes width) (take (length (first codes width)) (drop (r * width) samples))
+    → new ≡ coded r (first above width) (first (with-first codes width got) width) → sampled ≡ first (with-first codes width got) width
+    → RowCoded width n samples r (with-first above width sampled) (with-first (with-first codes width got) width new)
+row-coded width n samples r above codes got new sampled fits na nc h has eg en es =
+    let long = length-row width samples r h in
+    let read : got ≡ rowAt width samples r = row-read width samples r (first codes width) got (length-first codes width (omega arith)) h eg in
+    let lg : length got ≡ width = ap length read ∙ long in
+    let lent : first (with-first codes width got) width ≡ rowAt width samples r = first-with-first codes width got lg ∙ read in
+    let up : length (take width above) ≡ length (rowAt width samples r) = length-take-le width above (omega arith) ∙ sym long in
+    let is : new ≡ coded r (take width above) (rowAt width samples r) = en ∙ (λ i. coded r (first-is above width i) (lent i)) in
+    let ln : length new ≡ width = ap length is ∙ length-coded r (take width above) (rowAt width samples r) up ∙ long in
+    let ls : length sampled ≡ width = ap length (es ∙ lent) ∙ long in
+    let last : r ≡ r + 1 - 1 = omega arith in
+    let mid : length (with-first codes width got) ≡ n = length-with-first codes width got (omega arith) lg ∙ nc in
+    record {
+      row = first-with-first (with-first codes width got) width new ln ∙ is ∙ coded-is width samples r above has;
+      kept = λ _. take-with-first above width sampled ls ∙ es ∙ lent ∙ ap (rowAt width samples) last;
+      len-above = length-with-first above width sampled (omega arith) ls ∙ na;
+      len-codes = length-with-first (with-first codes width got) width new (omega arith) ln ∙ mid;
+    }
+
+-- so that the plane's row is packed
+pub row-wrote : {width n : ℕ} {samples : List ℕ} {r : ℕ} {above codes : List ℕ} (row : RowCoded width n samples r above codes) (d now : List ℕ) (to : ℕ) (answer : Packed)
+    → Wrote (rowSegments (first codes width)) d now to answer → Wrote (rowSegments (codesAt width samples r)) d now to answer
+row-wrote row d now to answer w =
+    (w .0 ∙ ap (λ (l : List ℕ). answerAt (rowSegments l) d to) (row .row), w .1 ∙ ap (λ (l : List ℕ). sliceAt (rowSegments l) d to) (row .row))
 
 -- ---- from the slice's first place on
 

@@ -1,10 +1,9 @@
-// A row's coded values: the first row's samples, a later row's differences from the row above.
+// A row's coded values: the first row's samples, a later row's differences from the row above. Both are made in place, and the row's
+// samples are kept for the row below.
 ghost use mathlib.Core.Path.{_≡_};
-ghost use Prim.Native.Nat.{_+_, _*_, _≤_, _<_};
 ghost use lib.ListN.{length};
 ghost use Rattle.rle_format.specs.Delta.{deltaCode, columns};
-ghost use Rattle.rle_format.specs.Slice.{over};
-ghost use Rattle.rle_encoder.specs.Samples.{spaced, codesOf};
+ghost use Rattle.rle_encoder.specs.Coded.{coded};
 
 // The code of a sample below another: their difference modulo 256, folded so that a small step either way is a small code.
 fn delta_value(prev: u8, next: u8) -> u8
@@ -14,55 +13,43 @@ fn delta_value(prev: u8, next: u8) -> u8
     if d < 128 { 2 * d } else { 2 * (255 - d) + 1 }
 }
 
-// The samples of a row, `stride` apart from index `from` on, into the start of codes: the first row is coded by value.
-fn copy_row(samples: &[u8], from: usize, stride: usize, width: usize, codes: &mut [u8])
-    requires { ⌜ (from + width * stride < length (now samples) + stride) × (width ≤ length (now codes)) ⌝ }
-    ensures { λ _. ⌜ now (codes .exit) ≡ over (now (codes .entry)) (spaced from stride width (now (samples .entry))) ⌝ }
+// The first row is coded by value, so that its samples are its codes: they are only kept for the row below.
+fn keep_row(codes: &[u8], above: &mut [u8])
+    requires { ⌜ length (now above) ≡ length (now codes) ⌝ }
+    ensures { λ _. ⌜ now (above .exit) ≡ now (codes .entry) ⌝ }
 {
     let mut i = 0;
-    while i < width {
-        codes[i] = samples[from + i * stride];
+    while i < codes.len() {
+        above[i] = codes[i];
         i += 1;
     }
 }
 
-// The codes of a row, whose samples begin at index `from`, by the row above, whose samples begin at `above`.
-fn delta_row(
-    samples: &[u8],
-    above: usize,
-    from: usize,
-    stride: usize,
-    width: usize,
-    codes: &mut [u8],
-)
-    requires { ⌜ (above ≤ from) × (from + width * stride < length (now samples) + stride) × (width ≤ length (now codes)) ⌝ }
-    ensures { λ _. ⌜ now (codes .exit) ≡ over (now (codes .entry)) (columns deltaCode (spaced above stride width (now (samples .entry))) (spaced from stride width (now (samples .entry)))) ⌝ }
+// A later row, by the row above. Each sample is kept where the one above it stood, which is not needed any more.
+fn delta_row(above: &mut [u8], codes: &mut [u8])
+    requires { ⌜ length (now above) ≡ length (now codes) ⌝ }
+    ensures codes { λ _. ⌜ now (codes .exit) ≡ columns deltaCode (now (above .entry)) (now (codes .entry)) ⌝ }
+    ensures above { λ _. ⌜ now (above .exit) ≡ now (codes .entry) ⌝ }
 {
     let mut i = 0;
-    while i < width {
-        let place = i * stride;
-        codes[i] = delta_value(samples[above + place], samples[from + place]);
+    while i < codes.len() {
+        let sample = codes[i];
+        codes[i] = delta_value(above[i], sample);
+        above[i] = sample;
         i += 1;
     }
 }
 
-// The coded values of row r, into the start of codes.
-pub(crate) fn code_scanline(
-    samples: &[u8],
-    start: usize,
-    stride: usize,
-    width: usize,
-    r: usize,
-    codes: &mut [u8],
-)
-    requires { ⌜ (0 < width) × (start < stride) × (r * (width * stride) + width * stride ≤ length (now samples)) × (width ≤ length (now codes)) ⌝ }
-    ensures { λ _. ⌜ now (codes .exit) ≡ over (now (codes .entry)) (codesOf start stride width (now (samples .entry)) r) ⌝ }
+// `codes` has the samples of row r, and `above` those of the row above it, which the first row does not read. Then `codes` has the
+// row's coded values, and `above` its samples.
+pub(crate) fn code_scanline(r: usize, above: &mut [u8], codes: &mut [u8])
+    requires { ⌜ length (now above) ≡ length (now codes) ⌝ }
+    ensures codes { λ _. ⌜ now (codes .exit) ≡ coded r (now (above .entry)) (now (codes .entry)) ⌝ }
+    ensures above { λ _. ⌜ now (above .exit) ≡ now (codes .entry) ⌝ }
 {
-    let row = width * stride;
-    let from = start + r * row;
     if r == 0 {
-        copy_row(samples, from, stride, width, codes);
+        keep_row(codes, above);
     } else {
-        delta_row(samples, from - row, from, stride, width, codes);
+        delta_row(above, codes);
     }
 }

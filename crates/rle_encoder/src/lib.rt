@@ -1,6 +1,5 @@
 // Packs a plane of an RDP 6.0 picture (MS-RDPEGDI 3.1.9.2): the encoding half of the Rust's rdp6/rle.rs.
 mod delta;
-mod layout;
 mod row;
 mod segment;
 
@@ -10,33 +9,38 @@ ghost use lib.ListN.{length};
 ghost use Rattle.rle_format.specs.Answer.{toldPacked};
 ghost use Rattle.rle_format.specs.Slice.{over};
 ghost use Rattle.rle_format.specs.Pack.{planeSegments, writeSegments, packPlane};
-ghost use Rattle.rle_encoder.specs.Samples.{spaced};
+ghost use Rattle.pixel_format.specs.Channel.{samplesOf};
 use delta::code_scanline;
-use layout::PlaneSamples;
+use pixel_format::Channel;
+use pixel_format::Layout;
+use pixel_format::read_samples;
+use pixel_format::sample_count;
 use rle_format::MAX_SIDE;
 use rle_format::Packed;
 use rle_format::Refusal;
 use row::encode_scanline;
 
-// Packs the rows of a plane from the top. Its samples stand in a slice from `start` on, `stride` apart; both are a layout's own
-// numbers. The local array holds one row's coded values at a time.
+// Packs the rows of a channel from the top. Each row's samples are read once, wherever the layout has them, into a local array, and
+// nothing after that knows of layouts. The array then holds the row's coded values, and the other one its samples, for the row below.
 fn encode(
-    samples: &[u8],
-    start: usize,
-    stride: usize,
+    src: &[u8],
+    layout: Layout,
+    channel: Channel,
     dst: &mut [u8],
     width: usize,
     height: usize,
 ) -> Packed
-    requires { ⌜ (0 < width) × (width ≤ 8192) × (start < stride) × (height * (width * stride) ≤ length (now samples)) ⌝ }
-    ensures answer { λ r. ⌜ toldPacked r ≡ writeSegments (planeSegments width height (spaced start stride (width * height) (now (samples .entry)))) (length (now (dst .entry))) .answer ⌝ }
-    ensures slice { λ _. ⌜ now (dst .exit) ≡ over (now (dst .entry)) (writeSegments (planeSegments width height (spaced start stride (width * height) (now (samples .entry)))) (length (now (dst .entry))) .written) ⌝ }
+    requires { ⌜ (0 < width) × (width ≤ 8192) × (height ≤ 8192) × (width * height ≤ length (samplesOf layout channel (now src))) ⌝ }
+    ensures answer { λ r. ⌜ toldPacked r ≡ writeSegments (planeSegments width height (samplesOf layout channel (now (src .entry)))) (length (now (dst .entry))) .answer ⌝ }
+    ensures slice { λ _. ⌜ now (dst .exit) ≡ over (now (dst .entry)) (writeSegments (planeSegments width height (samplesOf layout channel (now (src .entry)))) (length (now (dst .entry))) .written) ⌝ }
 {
+    let mut above = [0u8; MAX_SIDE];
     let mut codes = [0u8; MAX_SIDE];
     let mut to = 0;
     let mut r = 0;
     while r < height {
-        code_scanline(samples, start, stride, width, r, &mut codes);
+        read_samples(src, layout, channel, r * width, &mut codes[0..width]);
+        code_scanline(r, &mut above[0..width], &mut codes[0..width]);
         let answer = encode_scanline(&codes[0..width], dst, to);
         let Packed::Written(next) = answer else {
             return answer;
@@ -47,11 +51,18 @@ fn encode(
     Packed::Written(to)
 }
 
-// Packs the first width × height bytes of src into the first bytes of dst, and answers how many bytes were written. On every input:
-// refusals 1, 2, 11 and 12 of document 01 in that document's order, and every byte of dst as it says.
-pub fn compress_8bpp_plane(src: &[u8], dst: &mut [u8], width: usize, height: usize) -> Packed
-    ensures answer { λ r. ⌜ toldPacked r ≡ packPlane width height (length (now (dst .entry))) (now (src .entry)) .answer ⌝ }
-    ensures slice { λ _. ⌜ now (dst .exit) ≡ over (now (dst .entry)) (packPlane width height (length (now (dst .entry))) (now (src .entry)) .written) ⌝ }
+// Packs the first width × height samples of a channel into the first bytes of dst, and answers how many bytes were written. On every
+// input: refusals 1, 2, 11 and 12 of document 01 in that document's order, and every byte of dst as it says.
+pub fn compress_8bpp_channel(
+    src: &[u8],
+    layout: Layout,
+    channel: Channel,
+    dst: &mut [u8],
+    width: usize,
+    height: usize,
+) -> Packed
+    ensures answer { λ r. ⌜ toldPacked r ≡ packPlane width height (length (now (dst .entry))) (samplesOf layout channel (now (src .entry))) .answer ⌝ }
+    ensures slice { λ _. ⌜ now (dst .exit) ≡ over (now (dst .entry)) (packPlane width height (length (now (dst .entry))) (samplesOf layout channel (now (src .entry))) .written) ⌝ }
 {
     if width == 0 {
         return Packed::Refused(Refusal::ZeroSize);
@@ -65,15 +76,16 @@ pub fn compress_8bpp_plane(src: &[u8], dst: &mut [u8], width: usize, height: usi
     if MAX_SIDE < height {
         return Packed::Refused(Refusal::TooLarge);
     }
-    if src.len() < width * height {
+    if sample_count(src, layout) < width * height {
         return Packed::Refused(Refusal::NotEnoughBytes);
     }
-    encode(
-        src,
-        PlaneSamples::START,
-        PlaneSamples::STRIDE,
-        dst,
-        width,
-        height,
-    )
+    encode(src, layout, channel, dst, width, height)
+}
+
+// Packs the first width × height bytes of src in the same way: a plane by itself, of which channel does not matter.
+pub fn compress_8bpp_plane(src: &[u8], dst: &mut [u8], width: usize, height: usize) -> Packed
+    ensures answer { λ r. ⌜ toldPacked r ≡ packPlane width height (length (now (dst .entry))) (now (src .entry)) .answer ⌝ }
+    ensures slice { λ _. ⌜ now (dst .exit) ≡ over (now (dst .entry)) (packPlane width height (length (now (dst .entry))) (now (src .entry)) .written) ⌝ }
+{
+    compress_8bpp_channel(src, Layout::Planar, Channel::R, dst, width, height)
 }

@@ -142,6 +142,19 @@ lent-put d ys vs a k e =
     ∙ sym (append-assoc (take a d) (take k (drop a d)) (vs ++ drop (k + length vs) (drop a d)))
     ∙ (λ i. sym (take-add a k d) i ++ (vs ++ (drop-drop (k + length vs) a d ∙ ap (λ (n : ℕ). drop n d) (sym (add-assoc a k (length vs)))) i))
 
+-- a part with an end, `&mut d[a..b]`, whose callee wrote all of it
+pub lent-part : (d ys vs : List ℕ) (a b : ℕ) → a ≤ b → b ≤ length d → length vs ≡ b - a → ys ≡ over (take (b - a) (drop a d)) vs
+    → take a d ++ (ys ++ drop (b - a) (drop a d)) ≡ putAt d a vs
+unfolding putAt over
+lent-part d ys vs a b h k n e =
+    let left = length-drop a d in
+    let part = length-take-le (b - a) (drop a d) (omega arith) in
+    let none : drop (length vs) (take (b - a) (drop a d)) ≡ [] = drop-of-length-le (take (b - a) (drop a d)) {i = length vs} (omega arith) in
+    let all : ys ≡ vs = e ∙ ap (λ (l : List ℕ). vs ++ l) none ∙ append-nil vs in
+    let place : b - a ≡ length vs = sym n in
+    ap (λ (l : List ℕ). take a d ++ (l ++ drop (b - a) (drop a d))) all
+    ∙ ap (λ (l : List ℕ). take a d ++ (vs ++ l)) (ap (λ (k : ℕ). drop k (drop a d)) place ∙ drop-drop (length vs) a d)
+
 -- ---- more of writes
 
 -- the slice enters a write by what stands before and after it
@@ -202,14 +215,17 @@ over-more d xs ys n l =
     ∙ ap (λ (k : ℕ). drop k d) (sym (length-append xs ys)) in
     (λ i. front i ++ (ys ++ back i)) ∙ sym (append-assoc xs ys (drop (length (xs ++ ys)) d))
 
+-- a write from the first place on
+pub put-front : (d vs : List ℕ) → putAt d 0 vs ≡ over d vs
+unfolding over putAt
+put-front d vs = ap (λ (k : ℕ). vs ++ drop k d) (zero-add (length vs))
+
 -- a store right behind the first places that were overwritten
 pub over-set : (d now vs : List ℕ) (i v : ℕ) → now ≡ over d vs → length vs ≡ i → i < length d → set now i v ≡ over d (vs ++ v ∷ [])
-unfolding over putAt
 over-set d now vs i v e n h =
     let room : 0 + length vs < length d = omega arith in
     let place : 0 + length vs ≡ i = omega arith in
-    let front : (ws : List ℕ) → putAt d 0 ws ≡ over d ws = λ ws. ap (λ (k : ℕ). ws ++ drop k d) (zero-add (length ws)) in
-    (λ j. set ((e ∙ sym (front vs)) j) (sym place j) v) ∙ putAt-more d 0 vs v room ∙ front (vs ++ v ∷ [])
+    (λ j. set ((e ∙ sym (put-front d vs)) j) (sym place j) v) ∙ putAt-more d 0 vs v room ∙ put-front d (vs ++ v ∷ [])
 
 -- a turn of a loop that copies from index `from` of a list to the first places of a slice
 pub over-copy : (d now s : List ℕ) (from i v : ℕ) → now ≡ over d (take i (drop from s)) → from + i < length s → i < length d → v ≡ getD s (from + i) 0

@@ -10,6 +10,7 @@ use Rattle.rle_format.specs.Answer.{counted, refused, Outcome, stop, ref
 use Rattle.rle_format.specs.Segment.{Segment, size, control, bytes, allBytes}
 use Rattle.rle_format.specs.Pack.{literal, repeat, writeSegments}
 use Rattle.rle_format.proofs.Cases.{le-or-gt}
+use Rattle.rle_format.proofs.Answer.{not-counted}
 use Rattle.rle_format.proofs.Outcome.{onto-none, onto-onto}
 
 -- the bytes of a segment and of those after it
@@ -98,3 +99,11 @@ control-long run h k =
     (λ (l : run ≤ 31). rw (lt-leb run 15 h, le-leb run 31 l) (omega arith))
     (λ (l : 31 < run). rw (lt-leb run 15 h, lt-leb run 31 l) (omega arith))
     (le-or-gt run 31)
+
+-- what is counted fits
+pub write-counted : (ss : List Segment) (room n : ℕ) → counted n ≡ writeSegments ss room .answer → n ≤ room
+write-counted ss room n e =
+    ⊎-elim
+    (λ (h : length (allBytes ss) ≤ room). let k : n ≡ length (allBytes ss) = cc (write-all ss room h) in omega arith)
+    (λ (h : room < length (allBytes ss)). not-counted (sym (e ∙ write-refused ss room h)))
+    (le-or-gt (length (allBytes ss)) room)

@@ -1,40 +1,96 @@
--- `encode`: the loop keeps that writing the rows from r on, from here on, is writing all rows. Assumes nothing.
+-- `encode`: the loop keeps that writing the rows from r on, from here on, is writing all rows, and that the row above is at hand. Assumes nothing.
 use Rattle.rle_format.specs.declared.Packed.the-variants.{Written}
 use mathlib.Core.Path.{_≡_, refl, _∙_}
-use Prim.Native.Nat.{_+_, _-_, _*_, _≤_}
+use Prim.Native.Nat.{_+_, _-_, _≤_}
 use native.Mathlib.Omega.{arith}
 use borrow.Author.Needs.{needs}
 use lib.ListN.{length}
 use Rattle.rle_format.specs.Pack.{rowSegments, codesAt, planeSegments}
-use Rattle.rle_encoder.specs.Samples.{spaced}
+use Rattle.rle_format.proofs.Plane.{area-most}
+use Rattle.pixel_format.specs.Channel.{samplesOf}
 use Rattle.rle_encoder.proofs.Head.{WriteHead, head-first, head-rest, head-turn, head-stop, head-done}
-use Rattle.rle_encoder.proofs.Samples.{place-within}
-use Rattle.rle_encoder.proofs.Rows.{rowsFrom, rows-all, rows-more, rows-none, row-wrote, wrote-from-0}
+use Rattle.rle_encoder.proofs.Rows.{rowsFrom, rows-all, rows-more, rows-none, with-first, length-first, length-with-first, HasRowAbove, RowCoded, row-end, row-coded, row-wrote, wrote-from-0}
 use Rattle.rle_encoder.proofs.encode.Statement.{statement}
 use Rattle.rle_encoder.proofs.encode.Tie as tie
 
 abbrev Inv-loop : tie.InvT-loop
-Inv-loop samples start stride dst₀ width height codes₀ to₀ r₀ dst codes to r =
+Inv-loop src layout channel dst₀ width height above₀ codes₀ to₀ r₀ dst above codes to r =
     (r ≤ height)
+    × (length above ≡ 8192)
     × (length codes ≡ 8192)
-    × WriteHead (planeSegments width height (spaced start stride (width * height) samples)) (rowsFrom width (spaced start stride (width * height) samples) r (height - r)) dst₀ dst 0 to
+    × HasRowAbove width (samplesOf layout channel src) r above
+    × WriteHead (planeSegments width height (samplesOf layout channel src)) (rowsFrom width (samplesOf layout channel src) r (height - r)) dst₀ dst 0 to
 
 abbrev μ-loop : tie.MeasureT-loop
-μ-loop samples start stride dst₀ width height codes₀ to₀ r₀ dst codes to r = height - r
+μ-loop src layout channel dst₀ width height above₀ codes₀ to₀ r₀ dst above codes to r = height - r
+
+-- what the two arrays have once a row was read and coded
+row-is : (c : tie.After-code-scanline Inv-loop μ-loop) →
+    let l = c .before .before .before .before .before .before .before .loop in
+    let a = c .before .before .before .before .before .before .before .before .before .before .args in
+    let got = c .before .before .before .before .read-samples .last .1 .1 .1 .1 .0 in
+    RowCoded (a .width) 8192 (samplesOf (a .layout) (a .channel) (a .src .now)) (l .r) (with-first (l .above) (a .width) (c .code-scanline .last .1 .0))
+    (with-first (with-first (l .codes) (a .width) got) (a .width) (c .code-scanline .last .1 .1 .0))
+row-is c =
+    let l = c .before .before .before .before .before .before .before .loop in
+    let a = c .before .before .before .before .before .before .before .before .before .before .args in
+    let read = c .before .before .before .before .read-samples in
+    let code = c .code-scanline in
+    let samples = samplesOf (a .layout) (a .channel) (a .src .now) in
+    row-coded (a .width) 8192 samples (l .r) (l .above) (l .codes) (read .last .1 .1 .1 .1 .0) (code .last .1 .1 .0) (code .last .1 .0) (omega arith) (l .inv .1) (l .inv .2)
+    (omega (arith, row-end (l .r) (a .width) (a .height) (omega arith))) (l .inv .3) (read .ensures) (code .ensures .0) (code .ensures .1)
 
 loop-holds : tie.Need-loop-holds Inv-loop μ-loop
 loop-holds c =
     let a = c .before .before .args in
-    let samples = spaced (a .start) (a .stride) (a .width * a .height) (a .samples .now) in
-    (omega arith, refl, head-rest (head-first (planeSegments (a .width) (a .height) samples) (a .dst .now) 0 (omega arith)) (rowsFrom (a .width) samples 0 (a .height - 0)) (rows-all (a .width) samples (a .height)))
+    let samples = samplesOf (a .layout) (a .channel) (a .src .now) in (
+      omega arith,
+      refl,
+      refl,
+      (λ h. absurd (omega arith)),
+      head-rest (head-first (planeSegments (a .width) (a .height) samples) (a .dst .now) 0 (omega arith)) (rowsFrom (a .width) samples 0 (a .height - 0)) (rows-all (a .width) samples (a .height)),
+    )
 
-slice-aggregate-code-scanline : tie.Need-slice-aggregate-code-scanline Inv-loop μ-loop
-slice-aggregate-code-scanline c = search needs
+mul-read-samples : tie.Need-mul-read-samples Inv-loop μ-loop
+mul-read-samples c = let a = c .before .before .before .before .args in omega (arith, area-most (c .before .loop .r) (a .width) (omega arith) (omega arith))
+
+sub-read-samples : tie.Need-sub-read-samples Inv-loop μ-loop
+sub-read-samples c = search needs
+
+part-codes-start : tie.Need-part-codes-start Inv-loop μ-loop
+part-codes-start c = search needs
+
+part-codes-end : tie.Need-part-codes-end Inv-loop μ-loop
+part-codes-end c = search needs
+
+read-samples-requires : tie.Need-read-samples-requires Inv-loop μ-loop
+read-samples-requires c κs = search needs
+
+sub-code-scanline : tie.Need-sub-code-scanline Inv-loop μ-loop
+sub-code-scanline c = search needs
+
+part-above-start : tie.Need-part-above-start Inv-loop μ-loop
+part-above-start c = search needs
+
+part-above-end : tie.Need-part-above-end Inv-loop μ-loop
+part-above-end c = search needs
+
+sub-code-scanline-2 : tie.Need-sub-code-scanline-2 Inv-loop μ-loop
+sub-code-scanline-2 c = search needs
+
+part-codes-start-2 : tie.Need-part-codes-start-2 Inv-loop μ-loop
+part-codes-start-2 c = search needs
+
+part-codes-end-2 : tie.Need-part-codes-end-2 Inv-loop μ-loop
+part-codes-end-2 c =
+    let l = c .before .before .before .before .before .loop in
+    let a = c .before .before .before .before .before .before .before .before .args in
+    let read = c .before .before .read-samples in
+    let lent = length-first (l .codes) (a .width) (omega arith) in
+    omega (arith, length-with-first (l .codes) (a .width) (read .last .1 .1 .1 .1 .0) (omega arith) (read .kept .1 .1 .1 .1 .0 ∙ lent))
 
 code-scanline-requires : tie.Need-code-scanline-requires Inv-loop μ-loop
-code-scanline-requires c κs =
-    let a = c .before .before .before .before .before .args in
-    (omega arith, omega arith, omega (arith, place-within (c .before .before .loop .r) (a .height) (a .width * a .stride) (omega arith)), omega arith)
+code-scanline-requires c κs = search needs
 
 sub-encode-scanline : tie.Need-sub-encode-scanline Inv-loop μ-loop
 sub-encode-scanline c = search needs
@@ -43,7 +99,7 @@ part-encode-scanline-start : tie.Need-part-encode-scanline-start Inv-loop μ-loo
 part-encode-scanline-start c = search needs
 
 part-encode-scanline-end : tie.Need-part-encode-scanline-end Inv-loop μ-loop
-part-encode-scanline-end c = search needs
+part-encode-scanline-end c = omega (arith, row-is (c .before .before .before) .len-codes)
 
 encode-scanline-requires : tie.Need-encode-scanline-requires Inv-loop μ-loop
 encode-scanline-requires c κs = search needs
@@ -59,16 +115,15 @@ same-length c = search needs
 
 returns : tie.Need-returns Inv-loop μ-loop
 returns c =
-    let l = c .before .before .before .before .before .before .before .before .before .before .before .before .loop in
-    let a = c .before .before .before .before .before .before .before .before .before .before .before .before .before .before .before .args in
-    let samples = spaced (a .start) (a .stride) (a .width * a .height) (a .samples .now) in
-    let coded = c .before .before .before .before .before .before .before .before .before .code-scanline in
+    let l = c .before .before .before .before .before .before .before .before .before .before .before .before .before .before .before .before .before .loop in
+    let a = c .before .before .before .before .before .before .before .before .before .before .before .before .before .before .before .before .before .before .before .before .args in
+    let samples = samplesOf (a .layout) (a .channel) (a .src .now) in
+    let row = row-is (c .before .before .before .before .before .before .before .before .before .before) in
     let put = c .before .before .before .before .encode-scanline in
-    let row = row-wrote (a .start) (a .stride) (a .width) (a .height) (a .samples .now) (l .codes) (coded .last .1 .1 .1 .1 .1 .0) (l .r) (l .dst) (put .last .1 .0) (l .to) (put .result)
-    (omega arith) (coded .ensures) (put .ensures) in
+    let wrote = row-wrote row (l .dst) (put .last .1 .0) (l .to) (put .result) (put .ensures) in
     wrote-from-0 (planeSegments (a .width) (a .height) samples) (a .dst .now) (put .last .1 .0) (put .result)
-    (head-stop (l .inv .2) (rowSegments (codesAt (a .width) samples (l .r))) (rowsFrom (a .width) samples (l .r + 1) (a .height - (l .r + 1))) (put .last .1 .0) (put .result) (c .enum-told .given .0 .0)
-    (rows-more (a .width) samples (l .r) (a .height) (omega arith)) row (c .enum-told .given .1))
+    (head-stop (l .inv .4) (rowSegments (codesAt (a .width) samples (l .r))) (rowsFrom (a .width) samples (l .r + 1) (a .height - (l .r + 1))) (put .last .1 .0) (put .result) (c .enum-told .given .0 .0)
+    (rows-more (a .width) samples (l .r) (a .height) (omega arith)) wrote (c .enum-told .given .1))
 
 add-r : tie.Need-add-r Inv-loop μ-loop
 add-r c = search needs
@@ -78,17 +133,18 @@ loop-less c = search needs
 
 loop-again : tie.Need-loop-again Inv-loop μ-loop
 loop-again c =
-    let l = c .before .before .before .before .before .before .before .before .before .before .before .before .before .loop in
-    let a = c .before .before .before .before .before .before .before .before .before .before .before .before .before .before .before .before .args in
-    let samples = spaced (a .start) (a .stride) (a .width * a .height) (a .samples .now) in
-    let coded = c .before .before .before .before .before .before .before .before .before .before .code-scanline in
+    let l = c .before .before .before .before .before .before .before .before .before .before .before .before .before .before .before .before .before .before .loop in
+    let a = c .before .before .before .before .before .before .before .before .before .before .before .before .before .before .before .before .before .before .before .before .before .args in
+    let samples = samplesOf (a .layout) (a .channel) (a .src .now) in
+    let row = row-is (c .before .before .before .before .before .before .before .before .before .before .before) in
     let put = c .before .before .before .before .before .encode-scanline in
-    let row = row-wrote (a .start) (a .stride) (a .width) (a .height) (a .samples .now) (l .codes) (coded .last .1 .1 .1 .1 .1 .0) (l .r) (l .dst) (put .last .1 .0) (l .to) (put .result)
-    (omega arith) (coded .ensures) (put .ensures) in (
+    let wrote = row-wrote row (l .dst) (put .last .1 .0) (l .to) (put .result) (put .ensures) in (
       omega arith,
-      coded .kept .1 .1 .1 .1 .1 .0 ∙ l .inv .1,
-      head-turn (l .inv .2) (rowSegments (codesAt (a .width) samples (l .r))) (rowsFrom (a .width) samples (l .r + 1) (a .height - (l .r + 1))) (put .last .1 .0) (put .result) (c .before .answer .given .0 .0)
-          (rows-more (a .width) samples (l .r) (a .height) (omega arith)) row (c .before .answer .given .1),
+      row .len-above,
+      row .len-codes,
+      row .kept,
+      head-turn (l .inv .4) (rowSegments (codesAt (a .width) samples (l .r))) (rowsFrom (a .width) samples (l .r + 1) (a .height - (l .r + 1))) (put .last .1 .0) (put .result) (c .before .answer .given .0 .0)
+          (rows-more (a .width) samples (l .r) (a .height) (omega arith)) wrote (c .before .answer .given .1),
     )
 
 same-length-2 : tie.Need-same-length-2 Inv-loop μ-loop
@@ -98,9 +154,9 @@ returns-2 : tie.Need-returns-2 Inv-loop μ-loop
 returns-2 c =
     let l = c .before .loop in
     let a = c .before .before .before .before .args in
-    let samples = spaced (a .start) (a .stride) (a .width * a .height) (a .samples .now) in
+    let samples = samplesOf (a .layout) (a .channel) (a .src .now) in
     wrote-from-0 (planeSegments (a .width) (a .height) samples) (a .dst .now) (l .dst) (Written (l .to))
-    (head-done (l .inv .2) (rows-none (a .width) samples (l .r) (a .height - l .r) (omega arith)))
+    (head-done (l .inv .4) (rows-none (a .width) samples (l .r) (a .height - l .r) (omega arith)))
 
 pub encode-spec : {M : Type 1} → statement M
 encode-spec =
@@ -109,7 +165,17 @@ encode-spec =
     Inv-loop
     μ-loop
     loop-holds
-    slice-aggregate-code-scanline
+    mul-read-samples
+    sub-read-samples
+    part-codes-start
+    part-codes-end
+    read-samples-requires
+    sub-code-scanline
+    part-above-start
+    part-above-end
+    sub-code-scanline-2
+    part-codes-start-2
+    part-codes-end-2
     code-scanline-requires
     sub-encode-scanline
     part-encode-scanline-start

@@ -1,46 +1,38 @@
--- `delta_row`: after i turns the first i samples are coded. Assumes nothing.
-use mathlib.Core.Path.{_≡_, refl, sym, ap, _∙_}
-use Prim.Native.Nat.{ℕ, _≤_, _-_}
+-- `delta_row`: after i turns the first i samples are coded and kept. Assumes nothing.
+use mathlib.Core.Path.{sym, _∙_}
+use Prim.Native.Nat.{_≤_, _-_}
 use native.Mathlib.Omega.{arith}
 use borrow.Author.Needs.{needs}
-use lib.ListN.{length, length-set}
-use Rattle.rle_format.specs.Slice.{over}
-use Rattle.rle_format.proofs.Slice.{over-none}
-use Rattle.rle_encoder.specs.Samples.{spaced}
-use Rattle.rle_encoder.proofs.Samples.{place-within, codedFrom, coded-more}
+use lib.ListN.{length}
+use Rattle.rle_format.specs.Delta.{deltaCode, columns}
+use Rattle.rle_format.proofs.Delta.{length-columns, getD-columns}
+use Rattle.rle_encoder.proofs.Replaced.{Replaced, replaced-none, replaced-next, replaced-more, replaced-all}
 use Rattle.rle_encoder.proofs.delta.delta_row.Statement.{statement}
 use Rattle.rle_encoder.proofs.delta.delta_row.Tie as tie
 
 abbrev Inv-loop : tie.InvT-loop
-Inv-loop samples above from stride width codes₀ i₀ codes i = (i ≤ width) × ((length codes ≡ length codes₀) × (codes ≡ over codes₀ (codedFrom above from stride i samples)))
+Inv-loop above₀ codes₀ i₀ above codes i = (i ≤ length codes₀) × Replaced above₀ codes₀ above i × Replaced codes₀ (columns deltaCode above₀ codes₀) codes i
 
 abbrev μ-loop : tie.MeasureT-loop
-μ-loop samples above from stride width codes₀ i₀ codes i = width - i
+μ-loop above₀ codes₀ i₀ above codes i = length codes₀ - i
 
 loop-holds : tie.Need-loop-holds Inv-loop μ-loop
-unfolding spaced
-loop-holds c = (omega arith, (refl, sym (over-none _)))
+loop-holds c = (omega arith, replaced-none _ _, replaced-none _ _)
 
-mul-place : tie.Need-mul-place Inv-loop μ-loop
-mul-place c = omega (arith, place-within (c .before .loop .i) (c .before .before .before .before .args .width) (c .before .before .before .before .args .stride) (omega arith))
+slice-read-sample : tie.Need-slice-read-sample Inv-loop μ-loop
+slice-read-sample c = omega arith
 
-add-delta-value : tie.Need-add-delta-value Inv-loop μ-loop
-add-delta-value c = omega (arith, place-within (c .before .loop .i) (c .before .before .before .before .args .width) (c .before .before .before .before .args .stride) (omega arith))
-
-shared-slice-read-delta-value : tie.Need-shared-slice-read-delta-value Inv-loop μ-loop
-shared-slice-read-delta-value c = omega (arith, place-within (c .before .before .loop .i) (c .before .before .before .before .before .args .width) (c .before .before .before .before .before .args .stride) (omega arith))
-
-add-delta-value-2 : tie.Need-add-delta-value-2 Inv-loop μ-loop
-add-delta-value-2 c = omega (arith, place-within (c .before .before .loop .i) (c .before .before .before .before .before .args .width) (c .before .before .before .before .before .args .stride) (omega arith))
-
-shared-slice-read-delta-value-2 : tie.Need-shared-slice-read-delta-value-2 Inv-loop μ-loop
-shared-slice-read-delta-value-2 c = omega (arith, place-within (c .before .before .before .loop .i) (c .before .before .before .before .before .before .args .width) (c .before .before .before .before .before .before .args .stride) (omega arith))
+slice-read-delta-value : tie.Need-slice-read-delta-value Inv-loop μ-loop
+slice-read-delta-value c = omega arith
 
 delta-value-requires : tie.Need-delta-value-requires Inv-loop μ-loop
 delta-value-requires c κs = search needs
 
 slice-write-codes : tie.Need-slice-write-codes Inv-loop μ-loop
 slice-write-codes c = omega arith
+
+slice-write-above : tie.Need-slice-write-above Inv-loop μ-loop
+slice-write-above c = omega arith
 
 add-i : tie.Need-add-i Inv-loop μ-loop
 add-i c = omega arith
@@ -52,17 +44,26 @@ loop-again : tie.Need-loop-again Inv-loop μ-loop
 loop-again c =
     let l = c .before .before .before .before .loop in
     let a = c .before .before .before .before .before .before .before .args in
-    (omega arith, (simp length-set (omega arith), coded-more (a .codes .now) (l .codes) (a .samples .now) (a .above) (a .from) (a .stride) (l .i) (c .delta-value .result) (l .inv .1 .1) (omega arith) (c .delta-value .ensures)))
+    let i = l .i in
+    let coded = length-columns deltaCode (a .above .now) (a .codes .now) (omega arith) in
+    let is = getD-columns deltaCode (a .above .now) (a .codes .now) i (omega arith) (omega arith) in (
+      omega arith,
+      replaced-more (l .inv .1) _ (omega arith) (omega arith) (replaced-next (l .inv .2)),
+      replaced-more (l .inv .2) _ (omega arith) (omega arith) (c .delta-value .ensures ∙ (λ j. deltaCode (replaced-next (l .inv .1) j) (replaced-next (l .inv .2) j)) ∙ sym is),
+    )
 
 same-length : tie.Need-same-length Inv-loop μ-loop
 same-length c = omega arith
+
+same-length-2 : tie.Need-same-length-2 Inv-loop μ-loop
+same-length-2 c = omega arith
 
 returns : tie.Need-returns Inv-loop μ-loop
 returns c =
     let a = c .before .before .before .before .args in
     let l = c .before .loop in
-    let all : l .i ≡ a .width = omega arith in
-    l .inv .1 .1 ∙ ap (λ (k : ℕ). over (a .codes .now) (codedFrom (a .above) (a .from) (a .stride) k (a .samples .now))) all
+    let coded = length-columns deltaCode (a .above .now) (a .codes .now) (omega arith) in
+    (replaced-all (l .inv .2) (omega arith) (omega arith), replaced-all (l .inv .1) (omega arith) (omega arith))
 
 pub delta-row-spec : {M : Type 1} → statement M
 delta-row-spec =
@@ -71,15 +72,14 @@ delta-row-spec =
     Inv-loop
     μ-loop
     loop-holds
-    mul-place
-    add-delta-value
-    shared-slice-read-delta-value
-    add-delta-value-2
-    shared-slice-read-delta-value-2
+    slice-read-sample
+    slice-read-delta-value
     delta-value-requires
     slice-write-codes
+    slice-write-above
     add-i
     loop-less
     loop-again
     same-length
+    same-length-2
     returns)

@@ -1,0 +1,3 @@
+mod RawBody
+mod RleBody
+mod Pictures
