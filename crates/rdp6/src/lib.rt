@@ -191,7 +191,8 @@ pub extern "C" fn rdp6_encode_channels_stream(
     ensures answer { λ n. ⌜ n ≡ cNumber (packPicture rle width height (length (now (dst .entry))) (threePlanes (now (r .entry)) (now (g .entry)) (now (b .entry))) .answer) ⌝ }
     ensures slice { λ _. ⌜ now (dst .exit) ≡ over (now (dst .entry)) (packPicture rle width height (length (now (dst .entry))) (threePlanes (now (r .entry)) (now (g .entry)) (now (b .entry))) .written) ⌝ }
 {
-    encoded_number(bitmap_encoder::encode_channels_stream(r, g, b, dst, rle, width, height))
+    let answer = bitmap_encoder::encode_channels_stream(r, g, b, dst, rle, width, height);
+    encoded_number(answer)
 }
 
 #[no_mangle]
@@ -208,16 +209,8 @@ pub extern "C" fn rdp6_encode_channels_stream_alpha(
     ensures answer { λ n. ⌜ n ≡ cNumber (packPicture rle width height (length (now (dst .entry))) (fourPlanes (now (r .entry)) (now (g .entry)) (now (b .entry)) (now (a .entry))) .answer) ⌝ }
     ensures slice { λ _. ⌜ now (dst .exit) ≡ over (now (dst .entry)) (packPicture rle width height (length (now (dst .entry))) (fourPlanes (now (r .entry)) (now (g .entry)) (now (b .entry)) (now (a .entry))) .written) ⌝ }
 {
-    encoded_number(bitmap_encoder::encode_channels_stream_alpha(
-        r,
-        g,
-        b,
-        a,
-        dst,
-        rle,
-        width,
-        height,
-    ))
+    let answer = bitmap_encoder::encode_channels_stream_alpha(r, g, b, a, dst, rle, width, height);
+    encoded_number(answer)
 }
 
 #[no_mangle]
@@ -231,7 +224,8 @@ pub extern "C" fn rdp6_encode_bitmap(
     ensures answer { λ n. ⌜ n ≡ cNumber (packPicture rle width height (length (now (dst .entry))) (pixelPlanes bgrA (now (src .entry))) .answer) ⌝ }
     ensures slice { λ _. ⌜ now (dst .exit) ≡ over (now (dst .entry)) (packPicture rle width height (length (now (dst .entry))) (pixelPlanes bgrA (now (src .entry))) .written) ⌝ }
 {
-    encoded_number(bitmap_encoder::encode_bitmap(src, dst, rle, width, height))
+    let answer = bitmap_encoder::encode_bitmap(src, dst, rle, width, height);
+    encoded_number(answer)
 }
 
 #[no_mangle]
@@ -245,5 +239,6 @@ pub extern "C" fn rdp6_encode_bitmap_alpha(
     ensures answer { λ n. ⌜ n ≡ cNumber (packPicture rle width height (length (now (dst .entry))) (pixelPlanesAlpha bgrA (now (src .entry))) .answer) ⌝ }
     ensures slice { λ _. ⌜ now (dst .exit) ≡ over (now (dst .entry)) (packPicture rle width height (length (now (dst .entry))) (pixelPlanesAlpha bgrA (now (src .entry))) .written) ⌝ }
 {
-    encoded_number(bitmap_encoder::encode_bitmap_alpha(src, dst, rle, width, height))
+    let answer = bitmap_encoder::encode_bitmap_alpha(src, dst, rle, width, height);
+    encoded_number(answer)
 }

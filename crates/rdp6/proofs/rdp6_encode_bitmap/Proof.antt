@@ -19,9 +19,9 @@ use Rattle.rdp6.proofs.rdp6_encode_bitmap.Tie as tie
 -- a picture that was packed has fewer bytes than its destination may have
 few : (c : tie.After-encode-bitmap) (n : ℕ) (k : BitmapStreamHeader) → c .encode-bitmap .result ≡ Written n k → n < 9223372036854775808
 few c =
-    let s = ENTRY in
+    let s = c .before .before .before .before in
     let a = s .args in
-    encoded-few (a .rle) (a .width) (a .height) (length (a .dst .now)) (pixelPlanes bgrA (a .src .now)) (c .encode-bitmap .result) _ (c .encode-bitmap .ensures .0) (omega (arith, s .good DSTGOOD))
+    encoded-few (a .rle) (a .width) (a .height) (length (a .dst .now)) (pixelPlanes bgrA (a .src .now)) (c .encode-bitmap .result) _ (c .encode-bitmap .ensures .0) (omega (arith, s .good .1 .0 .1))
 
 encode-bitmap-requires : tie.Need-encode-bitmap-requires
 encode-bitmap-requires c κs = search needs

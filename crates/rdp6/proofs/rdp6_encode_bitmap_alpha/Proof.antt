@@ -19,9 +19,9 @@ use Rattle.rdp6.proofs.rdp6_encode_bitmap_alpha.Tie as tie
 -- a picture that was packed has fewer bytes than its destination may have
 few : (c : tie.After-encode-bitmap-alpha) (n : ℕ) (k : BitmapStreamHeader) → c .encode-bitmap-alpha .result ≡ Written n k → n < 9223372036854775808
 few c =
-    let s = ENTRY in
+    let s = c .before .before .before .before in
     let a = s .args in
-    encoded-few (a .rle) (a .width) (a .height) (length (a .dst .now)) (pixelPlanesAlpha bgrA (a .src .now)) (c .encode-bitmap-alpha .result) _ (c .encode-bitmap-alpha .ensures .0) (omega (arith, s .good DSTGOOD))
+    encoded-few (a .rle) (a .width) (a .height) (length (a .dst .now)) (pixelPlanesAlpha bgrA (a .src .now)) (c .encode-bitmap-alpha .result) _ (c .encode-bitmap-alpha .ensures .0) (omega (arith, s .good .1 .0 .1))
 
 encode-bitmap-alpha-requires : tie.Need-encode-bitmap-alpha-requires
 encode-bitmap-alpha-requires c κs = search needs
