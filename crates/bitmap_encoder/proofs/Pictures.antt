@@ -7,17 +7,17 @@ use Prim.Native.Nat.{ℕ, _+_, _*_, _≤_, _<_}
 use native.Mathlib.Omega.{arith}
 use lib.ListN.{length}
 use Rattle.rle_format.specs.declared.Packed.{Packed}
-use Rattle.rle_format.specs.declared.Packed.the-variants.{Written, Refused}
+use Rattle.rle_format.specs.declared.Packed.the-variants.{Refused}
 use Rattle.rle_format.specs.declared.Refusal.{Refusal}
 use Rattle.rle_format.specs.declared.Refusal.the-variants.{BufferTooSmall}
-use Rattle.rle_format.specs.Answer.{Answer, counted, refused, Outcome, number, toldPacked}
+use Rattle.rle_format.specs.Answer.{Answer, counted, refused, number, toldPacked}
 use Rattle.rle_format.specs.Slice.{over, putAt}
 use Rattle.rle_format.proofs.Slice.{put-front}
 use Rattle.rle_format.proofs.Plane.{area-most}
 use Rattle.rle_format.proofs.Sides.{Within}
 use Rattle.rle_format.proofs.Outcome.{same-answer, same-slice, none-written}
-use Rattle.rle_encoder.proofs.Head.{Wrote}
-use Rattle.rle_encoder.proofs.Rows.{wrote-from-0}
+use Rattle.rle_format.proofs.Head.{Wrote}
+use Rattle.rle_format.proofs.Head.{wrote-from-0}
 use Rattle.bitmap_format.specs.declared.BitmapStreamHeader.{BitmapStreamHeader}
 use Rattle.bitmap_format.specs.declared.Encoded.{Encoded}
 use Rattle.bitmap_format.specs.PackPicture.{pictureSegments, rawBody, someShort, packTested, packPicture, sentWith, toldEncoded}

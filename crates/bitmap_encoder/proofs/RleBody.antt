@@ -16,8 +16,8 @@ use Rattle.rle_format.proofs.Writing.{write-counted}
 use Rattle.rle_format.proofs.Sides.{Within}
 use Rattle.rle_format.proofs.PackPlane.{pack-segments}
 use Rattle.rle_format.proofs.Slice.{tail, tail-is, put-back, lent-over}
-use Rattle.rle_encoder.specs.Written.{answerAt, sliceAt}
-use Rattle.rle_encoder.proofs.Head.{Wrote, WriteHead, head-rest, head-turn, head-stop, head-last}
+use Rattle.rle_format.specs.Written.{answerAt, sliceAt}
+use Rattle.rle_format.proofs.Head.{Wrote, WriteHead, head-rest, head-turn, head-stop, head-last}
 use Rattle.bitmap_format.specs.PackPicture.{pictureSegments}
 
 -- a plane that was packed into the part of d from `at` on

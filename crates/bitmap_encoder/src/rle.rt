@@ -5,7 +5,7 @@ ghost use lib.ListN.{length};
 ghost use Rattle.rle_format.specs.Answer.{toldPacked};
 ghost use Rattle.rle_format.specs.Pack.{planeSegments};
 ghost use Rattle.rle_format.proofs.Sides.{Within};
-ghost use Rattle.rle_encoder.specs.Written.{answerAt, sliceAt};
+ghost use Rattle.rle_format.specs.Written.{answerAt, sliceAt};
 ghost use Rattle.pixel_format.specs.declared.Channel.the-variants.{R, G, B};
 ghost use Rattle.pixel_format.specs.Channel.{samplesOf};
 ghost use Rattle.bitmap_format.specs.PackPicture.{pictureSegments};

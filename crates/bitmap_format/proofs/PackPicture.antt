@@ -1,7 +1,7 @@
 -- Packing a picture: the tests, and each body.
 use mathlib.Core.Path.{_≡_, refl, sym, ap, _∙_}
 use mathlib.Core.Bool.{Bool, true, false, _||_}
-use mathlib.Core.List.{List, [], _∷_, _++_}
+use mathlib.Core.List.{List, [], _∷_}
 use Prim.Native.Nat.{ℕ, _+_, _*_, _≤_, _<_}
 use native.Mathlib.Omega.{arith}
 use lib.ListN.{length, take, length-append}
@@ -16,7 +16,7 @@ use Rattle.rle_format.proofs.Answer.{not-counted}
 use Rattle.rle_format.proofs.Sides.{Within, no-width, no-height, too-wide, too-high, in-sides, sides-in, sides-pass}
 use Rattle.bitmap_format.specs.Tests.{test, downwards}
 use Rattle.bitmap_format.specs.PackPicture.{pictureSegments, rawPlanes, rawBody, writeWhole, someShort, packTests, packTested, packBody, packPicture}
-use Rattle.bitmap_format.proofs.Tests.{refuses, passes, none-left, sides-passed, test-passed}
+use Rattle.bitmap_format.proofs.Tests.{passes, none-left, sides-passed, test-passed}
 
 -- ---- sources that are long enough
 

@@ -1,4 +1,3 @@
-mod Head
 mod Replaced
 mod Steps
 mod Scan

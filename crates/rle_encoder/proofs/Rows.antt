@@ -1,21 +1,20 @@
 -- The rows of a plane, as the packer's outer loop goes through them.
 use mathlib.Core.Path.{_≡_, refl, sym, ap, _∙_}
-use mathlib.Core.List.{List, [], _∷_, _++_, append-assoc, append-nil}
+use mathlib.Core.List.{List, [], _++_, append-assoc, append-nil}
 use Prim.Native.Nat.{ℕ, zero, suc, _+_, _*_, _-_, _≤_, _<_}
-use native.Mathlib.Nat.{zero-add, mul-comm, mul-le-mul-right}
+use native.Mathlib.Nat.{mul-comm, mul-le-mul-right}
 use native.Mathlib.Omega.{arith}
 use lib.ListN.{length, take, drop, length-append, length-drop, drop-of-length-le}
 use lib.Seq.{take-at, length-take-le}
 use Rattle.rle_format.specs.declared.Packed.{Packed}
-use Rattle.rle_format.specs.Answer.{Answer, counted, refused, more, toldPacked}
-use Rattle.rle_format.specs.Slice.{over, putAt}
+use Rattle.rle_format.specs.Slice.{over}
 use Rattle.rle_format.specs.Delta.{deltaCode, columns}
 use Rattle.rle_format.specs.Segment.{Segment}
-use Rattle.rle_format.specs.Pack.{rowSegments, rowAt, codesAt, planeSegments, writeSegments}
+use Rattle.rle_format.specs.Pack.{rowSegments, rowAt, codesAt, planeSegments}
 use Rattle.rle_format.proofs.Delta.{length-columns}
 use Rattle.rle_encoder.specs.Coded.{coded}
-use Rattle.rle_encoder.specs.Written.{answerAt, sliceAt}
-use Rattle.rle_encoder.proofs.Head.{Wrote}
+use Rattle.rle_format.specs.Written.{answerAt, sliceAt}
+use Rattle.rle_format.proofs.Head.{Wrote}
 
 -- ---- rows from the top, and rows from row r on
 
@@ -158,27 +157,3 @@ pub row-wrote : {width n : ℕ} {samples : List ℕ} {r : ℕ} {above codes : Li
     → Wrote (rowSegments (first codes width)) d now to answer → Wrote (rowSegments (codesAt width samples r)) d now to answer
 row-wrote row d now to answer w =
     (w .0 ∙ ap (λ (l : List ℕ). answerAt (rowSegments l) d to) (row .row), w .1 ∙ ap (λ (l : List ℕ). sliceAt (rowSegments l) d to) (row .row))
-
--- ---- from the slice's first place on
-
-module _ (ss : List Segment) (d : List ℕ) where
-  answer-from-0 : answerAt ss d 0 ≡ writeSegments ss (length d) .answer
-  unfolding answerAt
-  answer-from-0 =
-      let z : length d - 0 ≡ length d = omega arith in
-      ap (λ (n : ℕ). more 0 (writeSegments ss n .answer)) z ∙ same (writeSegments ss (length d) .answer)
-    where
-      same : (a : Answer) → more 0 a ≡ a
-      same (counted n) = ap counted (zero-add n)
-      same (refused r) = refl
-
-  slice-from-0 : sliceAt ss d 0 ≡ over d (writeSegments ss (length d) .written)
-  unfolding sliceAt over putAt
-  slice-from-0 =
-      let z : length d - 0 ≡ length d = omega arith in
-      ap (λ (n : ℕ). putAt d 0 (writeSegments ss n .written)) z
-      ∙ ap (λ (n : ℕ). writeSegments ss (length d) .written ++ drop n d) (zero-add (length (writeSegments ss (length d) .written)))
-
-  pub wrote-from-0 : (now : List ℕ) (r : Packed) → Wrote ss d now 0 r
-      → (toldPacked r ≡ writeSegments ss (length d) .answer) × (now ≡ over d (writeSegments ss (length d) .written))
-  wrote-from-0 now r w = (w .0 ∙ answer-from-0, w .1 ∙ slice-from-0)

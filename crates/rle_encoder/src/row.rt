@@ -4,7 +4,8 @@ ghost use Prim.Native.Nat.{_≤_, _<_};
 ghost use lib.ListN.{length};
 ghost use Rattle.rle_format.specs.Answer.{toldPacked};
 ghost use Rattle.rle_format.specs.Pack.{rowSegments};
-ghost use Rattle.rle_encoder.specs.Written.{answerAt, sliceAt, rowEnd};
+ghost use Rattle.rle_format.specs.Written.{answerAt, sliceAt};
+ghost use Rattle.rle_encoder.specs.RowEnd.{rowEnd};
 use crate::segment::encode_segment;
 use rle_format::Packed;
 

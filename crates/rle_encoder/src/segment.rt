@@ -7,7 +7,7 @@ ghost use lib.ListN.{length};
 ghost use Rattle.rle_format.specs.Answer.{toldPacked};
 ghost use Rattle.rle_format.specs.Slice.{putAt};
 ghost use Rattle.rle_format.specs.Pack.{literal, repeat, segmentsOf, longRun};
-ghost use Rattle.rle_encoder.specs.Written.{answerAt, sliceAt};
+ghost use Rattle.rle_format.specs.Written.{answerAt, sliceAt};
 use rle_format::Packed;
 use rle_format::Refusal;
 

@@ -18,3 +18,4 @@ pub mod Reading
 pub mod PackingSize
 pub mod Writing
 pub mod PackPlane
+pub mod Head

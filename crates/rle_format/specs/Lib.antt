@@ -6,4 +6,5 @@ pub mod Delta
 pub mod Segment
 pub mod Unpack
 pub mod Pack
+pub mod Written
 pub mod Examples

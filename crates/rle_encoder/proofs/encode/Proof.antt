@@ -8,8 +8,8 @@ use lib.ListN.{length}
 use Rattle.rle_format.specs.Pack.{rowSegments, codesAt, planeSegments}
 use Rattle.rle_format.proofs.Plane.{area-most}
 use Rattle.pixel_format.specs.Channel.{samplesOf}
-use Rattle.rle_encoder.proofs.Head.{WriteHead, head-first, head-rest, head-turn, head-stop, head-done}
-use Rattle.rle_encoder.proofs.Rows.{rowsFrom, rows-all, rows-more, rows-none, with-first, length-first, length-with-first, HasRowAbove, RowCoded, row-end, row-coded, row-wrote, wrote-from-0}
+use Rattle.rle_format.proofs.Head.{WriteHead, head-first, head-rest, head-turn, head-stop, head-done, wrote-from-0}
+use Rattle.rle_encoder.proofs.Rows.{rowsFrom, rows-all, rows-more, rows-none, with-first, length-first, length-with-first, HasRowAbove, RowCoded, row-end, row-coded, row-wrote}
 use Rattle.rle_encoder.proofs.encode.Statement.{statement}
 use Rattle.rle_encoder.proofs.encode.Tie as tie
 

@@ -5,7 +5,7 @@ use Rattle.rle_format.specs.Answer.{toldPacked}
 use Rattle.pixel_format.specs.declared.Channel.the-variants.{A}
 use Rattle.pixel_format.specs.Channel.{samplesOf}
 use Rattle.bitmap_format.specs.PackPicture.{pictureSegments}
-use Rattle.rle_encoder.proofs.Head.{head-first, head-last}
+use Rattle.rle_format.proofs.Head.{head-first, head-last}
 use Rattle.bitmap_encoder.specs.Sources.{threeOf, fourOf}
 use Rattle.bitmap_encoder.proofs.RawBody.{alpha-written}
 use Rattle.bitmap_encoder.proofs.RleBody.{planes-turn, planes-stop}

@@ -4,7 +4,7 @@ use native.Mathlib.Omega.{arith}
 use Rattle.pixel_format.specs.declared.Channel.the-variants.{R, G, B}
 use Rattle.pixel_format.specs.Channel.{samplesOf}
 use Rattle.bitmap_format.specs.PackPicture.{pictureSegments}
-use Rattle.rle_encoder.proofs.Head.{head-first}
+use Rattle.rle_format.proofs.Head.{head-first}
 use Rattle.bitmap_encoder.proofs.RleBody.{planes-turn, planes-stop, planes-end}
 use borrow.Author.Needs.{needs}
 use Rattle.bitmap_encoder.proofs.rle.compress_colors.Statement.{statement}

@@ -16,7 +16,7 @@ part-compress-8bpp-channel-end : tie.Need-part-compress-8bpp-channel-end
 part-compress-8bpp-channel-end c = search needs
 
 compress-8bpp-channel-requires : tie.Need-compress-8bpp-channel-requires
-compress-8bpp-channel-requires c κs = ?
+compress-8bpp-channel-requires c κs = search needs
 
 enum-known-answer : tie.Need-enum-known-answer
 enum-known-answer c = search needs

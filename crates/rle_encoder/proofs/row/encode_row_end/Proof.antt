@@ -3,8 +3,8 @@ use Prim.Native.Nat.{ℕ, _+_, _-_}
 use lib.ListN.{length, take, drop}
 use Rattle.rle_format.specs.Pack.{segmentsOf}
 use Rattle.rle_format.proofs.Slice.{tail-is}
-use Rattle.rle_encoder.specs.Written.{rowEnd}
-use Rattle.rle_encoder.proofs.Head.{head-first, head-rest, head-last}
+use Rattle.rle_encoder.specs.RowEnd.{rowEnd}
+use Rattle.rle_format.proofs.Head.{head-first, head-rest, head-last}
 use Rattle.rle_encoder.proofs.Scan.{run-end, raw-end}
 use native.Mathlib.Omega.{arith}
 use mathlib.Core.Path.{sym, ap, _∙_}

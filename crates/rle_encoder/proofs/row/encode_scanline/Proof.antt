@@ -4,8 +4,8 @@ use native.Mathlib.Omega.{arith}
 use borrow.Author.Needs.{needs}
 use lib.ListN.{length, take, drop}
 use Rattle.rle_format.specs.Pack.{segmentsOf, rowSegments}
-use Rattle.rle_encoder.specs.Written.{rowEnd}
-use Rattle.rle_encoder.proofs.Head.{WriteHead, head-first, head-rest, head-turn, head-stop, head-last}
+use Rattle.rle_encoder.specs.RowEnd.{rowEnd}
+use Rattle.rle_format.proofs.Head.{WriteHead, head-first, head-rest, head-turn, head-stop, head-last}
 use Rattle.rle_encoder.proofs.Scan.{Scanned, scan, scan-begins, scan-same, scan-joins, scan-ends, scan-closes, scanned-begins, scanned-new, scanned-same}
 use Rattle.rle_encoder.proofs.row.encode_scanline.Statement.{statement}
 use Rattle.rle_encoder.proofs.row.encode_scanline.Tie as tie

@@ -6,7 +6,7 @@ use borrow.Author.Needs.{needs}
 use lib.ListN.{length, getD, take, drop}
 use Rattle.rle_format.specs.Pack.{literal, repeat, segmentsOf, longRun}
 use Rattle.rle_format.proofs.SegmentSteps.{longRun-none}
-use Rattle.rle_encoder.proofs.Head.{WriteHead, head-first, head-rest, head-turn, head-stop, head-last, head-done}
+use Rattle.rle_format.proofs.Head.{WriteHead, head-first, head-rest, head-turn, head-stop, head-last, head-done}
 use Rattle.rle_encoder.proofs.Steps.{long-turn, rest-left, segment-turn, segment-last}
 use Prim.Native.Nat.{ℕ, _+_, _-_, _≤_, _<_}
 use borrow.Fn.Kinds.{In}

@@ -5,7 +5,7 @@ use native.Mathlib.Omega.{arith}
 use lib.ListN.{length, length-set}
 use Rattle.rle_format.specs.Pack.{literal}
 use Rattle.rle_format.proofs.Writing.{control-short}
-use Rattle.rle_encoder.proofs.Head.{wrote-none, wrote-one}
+use Rattle.rle_format.proofs.Head.{wrote-none, wrote-one}
 use borrow.Author.Needs.{needs}
 use Rattle.rle_encoder.proofs.segment.write_literal.Statement.{statement}
 use Rattle.rle_encoder.proofs.segment.write_literal.Tie as tie

@@ -6,7 +6,7 @@ use lib.ListN.{set}
 use Rattle.rle_format.specs.Pack.{repeat}
 use Rattle.rle_format.proofs.Slice.{putAt-none}
 use Rattle.rle_format.proofs.Writing.{control-long}
-use Rattle.rle_encoder.proofs.Head.{wrote-none, wrote-one}
+use Rattle.rle_format.proofs.Head.{wrote-none, wrote-one}
 use borrow.Author.Needs.{needs}
 use Rattle.rle_encoder.proofs.segment.write_repeat.Statement.{statement}
 use Rattle.rle_encoder.proofs.segment.write_repeat.Tie as tie

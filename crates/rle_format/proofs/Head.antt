@@ -3,20 +3,21 @@ use mathlib.Core.Path.{_≡_, refl, sym, ap, _∙_}
 use mathlib.Core.Logic.{⊎-elim}
 use mathlib.Core.List.{List, [], _∷_, _++_, append-nil}
 use Prim.Native.Nat.{ℕ, _+_, _-_, _≤_, _<_}
+use native.Mathlib.Nat.{zero-add}
 use native.Mathlib.Omega.{arith}
 use lib.ListN.{length, set}
 use Rattle.rle_format.specs.declared.Refusal.{Refusal}
 use Rattle.rle_format.specs.declared.Refusal.the-variants.{BufferTooSmall}
 use Rattle.rle_format.specs.declared.Packed.{Packed}
 use Rattle.rle_format.specs.declared.Packed.the-variants.{Written, Refused}
 use Rattle.rle_format.specs.Answer.{Answer, counted, refused, Outcome, stop, more, onto, number, toldPacked}
-use Rattle.rle_format.specs.Slice.{putAt}
+use Rattle.rle_format.specs.Slice.{over, putAt}
 use Rattle.rle_format.specs.Segment.{Segment, size, control, bytes, allBytes}
 use Rattle.rle_format.specs.Pack.{writeSegments}
 use Rattle.rle_format.proofs.Cases.{le-or-gt}
-use Rattle.rle_format.proofs.Slice.{putAt-none, length-putAt, putAt-putAt, set-putAt}
+use Rattle.rle_format.proofs.Slice.{putAt-none, put-front, length-putAt, putAt-putAt, set-putAt}
 use Rattle.rle_format.proofs.Writing.{write-append, write-short, write-all, write-refused, write-within, write-full}
-use Rattle.rle_encoder.specs.Written.{answerAt, sliceAt}
+use Rattle.rle_format.specs.Written.{answerAt, sliceAt}
 
 -- ---- segments that all fit, and segments that do not
 
@@ -190,3 +191,26 @@ module _ (s : Segment) (d : List ℕ) (at : ℕ) where
             ∙ ap (putAt d at) (sym (append-nil (bytes s)))
             ∙ sym (slice-fits (s ∷ []) d at all),
       )
+
+-- ---- from the slice's first place on
+
+module _ (ss : List Segment) (d : List ℕ) where
+  answer-from-0 : answerAt ss d 0 ≡ writeSegments ss (length d) .answer
+  unfolding answerAt
+  answer-from-0 =
+      let z : length d - 0 ≡ length d = omega arith in
+      ap (λ (n : ℕ). more 0 (writeSegments ss n .answer)) z ∙ same (writeSegments ss (length d) .answer)
+    where
+      same : (a : Answer) → more 0 a ≡ a
+      same (counted n) = ap counted (zero-add n)
+      same (refused r) = refl
+
+  slice-from-0 : sliceAt ss d 0 ≡ over d (writeSegments ss (length d) .written)
+  unfolding sliceAt
+  slice-from-0 =
+      let z : length d - 0 ≡ length d = omega arith in
+      ap (λ (n : ℕ). putAt d 0 (writeSegments ss n .written)) z ∙ put-front d (writeSegments ss (length d) .written)
+
+  pub wrote-from-0 : (now : List ℕ) (r : Packed) → Wrote ss d now 0 r
+      → (toldPacked r ≡ writeSegments ss (length d) .answer) × (now ≡ over d (writeSegments ss (length d) .written))
+  wrote-from-0 now r w = (w .0 ∙ answer-from-0, w .1 ∙ slice-from-0)
