@@ -8,7 +8,7 @@ use mir.Val.{SFits}
 use mir.Syntax.{w64}
 use Rattle.bitmap_format.specs.declared.BitmapStreamHeader.{BitmapStreamHeader}
 use Rattle.bitmap_format.specs.declared.Encoded.the-variants.{Written}
-use Rattle.bitmap_format.specs.PackPicture.{fourPlanes}
+use Rattle.bitmap_format.specs.PackPicture.{fourPlanes, packPicture}
 use Rattle.rdp6.specs.Number.{cNumber}
 use Rattle.rdp6.proofs.Numbers.{encoded-fits, answer-sent, encoded-few}
 use borrow.Author.Needs.{needs}
@@ -34,8 +34,9 @@ same-length c = search needs
 returns : tie.Need-returns
 returns c =
     let d = c .before .before .before in
+    let a = d .before .before .before .before .before .before .before .args in
     let f : SFits w64 (c .encoded-number .result) = rw (c .encoded-number .ensures) (encoded-fits (d .encode-channels-stream-alpha .result) (few d)) in
-    (toZ-ofZ f ∙ c .encoded-number .ensures ∙ ap cNumber (answer-sent (d .encode-channels-stream-alpha .result) _ _ (d .encode-channels-stream-alpha .ensures .0)), d .encode-channels-stream-alpha .ensures .1)
+    (toZ-ofZ f ∙ c .encoded-number .ensures ∙ ap cNumber (answer-sent (d .encode-channels-stream-alpha .result) _ (packPicture (a .rle) (a .width) (a .height) (length (a .dst .now)) (fourPlanes (a .r .now) (a .g .now) (a .b .now) (a .a .now)) .answer) (d .encode-channels-stream-alpha .ensures .0)), d .encode-channels-stream-alpha .ensures .1)
 
 pub rdp6-encode-channels-stream-alpha-spec : {M : Type 1} → statement M
 rdp6-encode-channels-stream-alpha-spec = tie.close (tie.spec encode-channels-stream-alpha-requires encoded-number-requires same-length returns)
