@@ -65,9 +65,7 @@ answer-sent e header a t = ap answerOf t ∙ bare a
     bare (refused r) = refl
 
 -- a picture that was packed has fewer bytes than any slice can have
-pub encoded-few : (rle : Bool) (w h room : ℕ) (planes : List (List ℕ)) (e : Encoded) (header : BitmapStreamHeader)
-    → toldEncoded e ≡ sentWith header (packPicture rle w h room planes .answer) → room < 9223372036854775808
-    → (n : ℕ) (k : BitmapStreamHeader) → e ≡ encoded.Written n k → n < 9223372036854775808
-encoded-few rle w h room planes e header t small n k is =
-    let a : packPicture rle w h room planes .answer ≡ counted n = sym (answer-sent e header _ t) ∙ ap (λ (x : Encoded). answerOf (toldEncoded x)) is in
-    omega (arith, packed-within rle w h room planes n a)
+pub encoded-few : (rle : Bool) (w h room : ℕ) (planes : List (List ℕ)) (e : Encoded) → answerOf (toldEncoded e) ≡ packPicture rle w h room planes .answer
+    → room < 9223372036854775808 → (n : ℕ) (header : BitmapStreamHeader) → e ≡ encoded.Written n header → n < 9223372036854775808
+encoded-few rle w h room planes e t small n header is =
+    omega (arith, packed-within rle w h room planes n (sym t ∙ ap (λ (x : Encoded). answerOf (toldEncoded x)) is))

@@ -9,19 +9,22 @@ use mir.Syntax.{w64}
 use Rattle.pixel_format.specs.Channel.{bgrA}
 use Rattle.bitmap_format.specs.declared.BitmapStreamHeader.{BitmapStreamHeader}
 use Rattle.bitmap_format.specs.declared.Encoded.the-variants.{Written}
-use Rattle.bitmap_format.specs.PackPicture.{pixelPlanes, packPicture}
-use Rattle.rdp6.specs.Number.{cNumber}
+use Rattle.bitmap_format.specs.PackPicture.{pixelPlanes, packPicture, toldEncoded}
+use Rattle.rdp6.specs.Number.{cNumber, answerOf}
 use Rattle.rdp6.proofs.Numbers.{encoded-fits, answer-sent, encoded-few}
 use borrow.Author.Needs.{needs}
 use Rattle.rdp6.proofs.rdp6_encode_bitmap.Statement.{statement}
 use Rattle.rdp6.proofs.rdp6_encode_bitmap.Tie as tie
 
--- a picture that was packed has fewer bytes than its destination may have
-few : (c : tie.After-encode-bitmap) (n : ℕ) (k : BitmapStreamHeader) → c .encode-bitmap .result ≡ Written n k → n < 9223372036854775808
+-- the entry's answer, without the header record
+answered : (c : tie.After-encode-bitmap) → let a = c .before .before .before .before .args in answerOf (toldEncoded (c .encode-bitmap .result)) ≡ packPicture (a .rle) (a .width) (a .height) (length (a .dst .now)) (pixelPlanes bgrA (a .src .now)) .answer
+answered c = answer-sent (c .encode-bitmap .result) _ _ (c .encode-bitmap .ensures .0)
+
+-- a picture that was packed has fewer bytes than a slice can have
+few : (c : tie.After-encode-bitmap) (n : ℕ) (header : BitmapStreamHeader) → c .encode-bitmap .result ≡ Written n header → n < 9223372036854775808
 few c =
     let s = c .before .before .before .before in
-    let a = s .args in
-    encoded-few (a .rle) (a .width) (a .height) (length (a .dst .now)) (pixelPlanes bgrA (a .src .now)) (c .encode-bitmap .result) _ (c .encode-bitmap .ensures .0) (omega (arith, s .good .1 .0 .1))
+    encoded-few _ _ _ _ _ (c .encode-bitmap .result) (answered c) (omega (arith, s .good .1 .0 .1))
 
 encode-bitmap-requires : tie.Need-encode-bitmap-requires
 encode-bitmap-requires c κs = search needs
@@ -35,9 +38,8 @@ same-length c = search needs
 returns : tie.Need-returns
 returns c =
     let d = c .before .before .before in
-    let a = d .before .before .before .before .args in
     let f : SFits w64 (c .encoded-number .result) = rw (c .encoded-number .ensures) (encoded-fits (d .encode-bitmap .result) (few d)) in
-    (toZ-ofZ f ∙ c .encoded-number .ensures ∙ ap cNumber (answer-sent (d .encode-bitmap .result) _ (packPicture (a .rle) (a .width) (a .height) (length (a .dst .now)) (pixelPlanes bgrA (a .src .now)) .answer) (d .encode-bitmap .ensures .0)), d .encode-bitmap .ensures .1)
+    (toZ-ofZ f ∙ c .encoded-number .ensures ∙ ap cNumber (answered d), d .encode-bitmap .ensures .1)
 
 pub rdp6-encode-bitmap-spec : {M : Type 1} → statement M
 rdp6-encode-bitmap-spec = tie.close (tie.spec encode-bitmap-requires encoded-number-requires same-length returns)
