@@ -7,3 +7,4 @@ pub mod UnpackPlanes
 pub mod Picture
 pub mod PackPicture
 pub mod Examples
+pub mod PackExamples

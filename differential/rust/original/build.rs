@@ -1,5 +1,5 @@
-//! Writes the module tree that the Rust files expect around them (`crate::rdp6::rle`, `crate::rdp6::bitmap_stream::decoder`),
-//! with the paths of the files themselves: they are compiled where they lie and never copied.
+//! Writes the module tree that the Rust files expect around them (`crate::rdp6::rle`, `crate::rdp6::bitmap_stream`), with the
+//! paths of the files themselves: they are compiled where they lie and never copied.
 
 use std::path::{Path, PathBuf};
 use std::{env, fs, process};
@@ -27,7 +27,7 @@ fn file_of(folder: &Path, name: &str) -> PathBuf {
 
 /// The module tree. The decoder's file is included instead of named, so that a function of ours can stand beside it in its
 /// module and call what is private there.
-fn modules(rle: &Path, decoder: &Path, beside: &Path) -> String {
+fn modules(rle: &Path, decoder: &Path, beside: &Path, encoder: &Path) -> String {
     // What nothing here calls would be warned of, in files that are not ours to change.
     format!(
         "#[allow(dead_code)]
@@ -39,6 +39,8 @@ pub(crate) mod rdp6 {{
             include!({decoder:?});
             include!({beside:?});
         }}
+        #[path = {encoder:?}]
+        pub(crate) mod encoder;
     }}
 }}
 "
@@ -49,7 +51,8 @@ fn main() {
     let folder = source_folder();
     let rle = file_of(&folder, "rdp6/rle.rs");
     let decoder = file_of(&folder, "rdp6/bitmap_stream/decoder.rs");
+    let encoder = file_of(&folder, "rdp6/bitmap_stream/encoder.rs");
     let beside = Path::new(&env::var_os("CARGO_MANIFEST_DIR").unwrap()).join("src/beside_decoder.rs");
     let out = PathBuf::from(env::var_os("OUT_DIR").unwrap()).join("modules.rs");
-    fs::write(out, modules(&rle, &decoder, &beside)).unwrap();
+    fs::write(out, modules(&rle, &decoder, &beside, &encoder)).unwrap();
 }

@@ -1,5 +1,6 @@
 //! Measures the Rust and the port side by side: the same sources, the same buffers, in turn within each round.
 
+mod encodings;
 mod pictures;
 
 use comparer::planes::{self, longest_packing};
@@ -125,4 +126,5 @@ fn main() {
         print_line(kind, share(body), best_times(&PACKING, &task));
     }
     pictures::measure();
+    encodings::measure();
 }

@@ -74,7 +74,7 @@ fn print_line(picture: &Picture, (rust, port): (i64, i64)) {
 }
 
 /// Rises by one every so many samples across and down.
-fn gradient((width, height): (usize, usize), (across, down): (usize, usize)) -> Vec<u8> {
+pub fn gradient((width, height): (usize, usize), (across, down): (usize, usize)) -> Vec<u8> {
     (0..width * height).map(|at| (at % width / across + at / width / down) as u8).collect()
 }
 

@@ -4,8 +4,10 @@ use comparer::bytes;
 use comparer::case::Operation;
 use comparer::check::answer_text;
 use comparer::demand::{Demand, Plane};
+use comparer::encoding::{Encoding, OwnedEncoding, Sources};
 use comparer::picture::{OwnedPicture, Sizes};
 use comparer::{Case, Input, Owned};
+use original::{Encoded, Header};
 use std::process::ExitCode;
 
 /// A place and its inputs, the smallest that show it.
@@ -107,6 +109,121 @@ const PICTURES: [Place; 9] = [
     ),
 ];
 
+const ENCODING: [Place; 10] = [
+    (
+        "width 0",
+        &[
+            "pc 0 1 1 - - - none -",
+            "pc 0 1 0 - - - none EE",
+            "pc 0 1 0 - - - none -",
+            "pb 0 1 1 0 - -",
+            "pb 0 1 0 0 - EE",
+        ],
+    ),
+    (
+        "height 0",
+        &[
+            "pc 1 0 1 - - - none -",
+            "pc 1 0 1 01 02 03 none EE*6",
+            "pc 1 0 0 01 02 03 none EE*4",
+            "pc 1 0 0 01 02 03 none EE",
+            "pb 1 0 0 1 01020304 EE*5",
+        ],
+    ),
+    (
+        "a side over 8192",
+        &[
+            "pc 8193 1 1 - - - none -",
+            "pc 1 8193 1 - - - none -",
+            "pc 8193 1 1 05*8193 05*8193 05*8193 none EE*528",
+            "pc 8193 1 0 05*8193 05*8193 05*8193 none EE*24580",
+            "pb 1 8193 0 0 05*32772 EE*24580",
+            "pc 4294967296 4294967296 0 - - - none EE",
+            "pc 4294967296 4294967296 0 - - - - EE",
+            "pc 18446744073709551615 1 0 - - - none EE",
+            "pc 18446744073709551615 1 1 - - - none -",
+        ],
+    ),
+    (
+        "RLE, a source ends inside the last row, and what the decoder says to that",
+        &[
+            "pc 2 1 1 05 0505 0505 none EE*8",
+            "iu 2 1 1 0 argb 1005200505200505 EE*6 EE*6",
+            "pb 2 1 1 0 01020304 EE*6",
+            "iu 2 1 1 0 argb 100310021001 EE*6 EE*6",
+            "pc 2 1 1 02 0304 0506 01 EE*10",
+            "iu 2 1 1 0 argb 10011002200304200506 EE*6 EE*6",
+        ],
+    ),
+    (
+        "RLE, a source ends at a row's start",
+        &[
+            "pc 1 1 1 - 02 03 none -",
+            "pc 1 1 1 01 02 - none EE*4",
+            "pc 1 2 1 01 0202 0303 none EE*12",
+            "pb 1 1 1 0 010203 -",
+        ],
+    ),
+    (
+        "RLE, a source is short, and so is the destination",
+        &["pc 2 1 1 05 0505 0505 none -", "pc 1 1 1 01 02 - none EE*3", "pc 1 1 1 01 02 03 - -"],
+    ),
+    (
+        "raw, a source is short",
+        &[
+            "pc 1 1 0 - 02 03 none EE*4",
+            "pc 1 1 0 - - - none EE*4",
+            "pc 1 1 0 01 02 03 - EE*5",
+            "pb 1 1 0 0 010203 EE*4",
+            "pc 1 1 0 - 02 03 none EE*3",
+        ],
+    ),
+    (
+        "raw, a source is short and another long by as much",
+        &["pc 1 1 0 - 0202 03 none EE*4", "pc 2 1 0 01 020304 0506 none EE*7"],
+    ),
+    (
+        "raw, long sources, with room",
+        &["pc 1 1 0 0101 02 03 none EE*5", "pc 2 1 0 010203 0405 0607 none EE*8", "pb 1 1 0 0 0102030405060708 EE*7"],
+    ),
+    (
+        "raw, long sources, without room for all of it",
+        &[
+            "pc 1 1 0 0101 02 03 none EE*4",
+            "pc 1 1 0 010101 02 03 none EE*4",
+            "pb 1 1 0 0 0102030405060708 EE*4",
+            "pb 1 1 0 1 0102030405060708 EE*5",
+            "pc 1 1 0 0101 02 03 none EE*3",
+        ],
+    ),
+];
+
+/// The same of packing: which samples are used, and what the header says whatever comes after it.
+const ENCODING_ALIKE: [Place; 4] = [
+    ("RLE, long sources", &["pc 2 1 1 010203 040506 070809 none EE*9", "pb 1 1 1 0 0102030405060708 EE*6"]),
+    (
+        "bytes behind the last whole pixel",
+        &["pb 1 1 0 0 01020304AABBCC EE*4", "pb 2 1 0 1 0102030405060708AABBCC EE*9", "pb 1 1 1 1 01020304AA EE*8"],
+    ),
+    (
+        "the header of four planes, and what the decoder makes of them with alpha false and true",
+        &[
+            "pb 1 1 0 1 01020304 EE*5",
+            "iu 1 1 0 0 argb 0403020100 - EE*3",
+            "iu 1 1 0 1 argb 0403020100 - EE*3",
+            "pb 1 1 1 1 01020304 EE*8",
+            "iu 1 1 1 0 argb 1004100310021001 EE*3 EE*3",
+            "iu 1 1 1 1 argb 1004100310021001 EE*3 EE*3",
+            "pc 1 1 0 03 02 01 04 EE*5",
+            "pc 1 1 1 03 02 01 04 EE*8",
+        ],
+    ),
+    (
+        "the header of a refusal",
+        &["pb 1 1 0 0 01020304 -", "pb 1 1 1 0 01020304 -", "pb 1 1 0 0 01020304 EE*3", "pb 1 1 1 0 01020304 EE*5"],
+    ),
+];
+
 /// Inside the domain, where both do the same: what document 01 says in few words.
 const ALIKE: [Place; 5] = [
     ("the work area holds the planes after a picture is done", &["iu 1 1 1 1 1:0 10FF1064100A1014 EE*3 EE*3"]),
@@ -139,6 +256,10 @@ pub fn print_all() -> ExitCode {
     PICTURES.iter().for_each(print_place);
     println!("picture unpacking, inside the domain");
     ALIKE.iter().for_each(print_place);
+    println!("picture packing");
+    ENCODING.iter().for_each(print_place);
+    println!("picture packing, inside the domain");
+    ENCODING_ALIKE.iter().for_each(print_place);
     ExitCode::SUCCESS
 }
 
@@ -164,6 +285,7 @@ fn print_input(input: &Input) {
         Input::Call(case) => print_call(case),
         Input::Picture(case) => print_picture(case),
         Input::Sizes(case) => print_sizes(case),
+        Input::Encoding(case) => print_encoding(case),
         Input::Demand(case) => print_demand(case),
     }
 }
@@ -225,6 +347,27 @@ fn print_sizes(case: &Sizes) {
         )
     };
     println!("    the port: work area {work}, image {image}");
+}
+
+/// The Rust gets a destination with a byte in front, in which its header is left.
+fn print_encoding(case: &OwnedEncoding) {
+    let Encoding { width, height, rle, .. } = *case;
+    println!("  {case}");
+    let mut after = [&[0xEE], &case.before[..]].concat();
+    let Encoded { answer, header } = case.view().by_rust(&mut after);
+    let header = header.map_or("no header".to_owned(), header_text);
+    println!("    the Rust: {answer}, {header}, destination behind it {}", bytes::text(&after[1..]));
+    let mut after = case.before.clone();
+    let port = match case.sources.view() {
+        Sources::Channels { colours, alpha } => ours::encode_channels(colours, alpha, &mut after, rle, width, height),
+        Sources::Pixels { pixels, alpha } => ours::encode_bitmap(pixels, alpha, &mut after, rle, width, height),
+    };
+    println!("    the port: {}, destination {}", answer_text(port), bytes::text(&after));
+}
+
+fn header_text(header: Header) -> String {
+    let Header { rle, alpha, definition } = header;
+    format!("header RLE {} alpha {} {definition:?}", u8::from(rle), u8::from(alpha))
 }
 
 /// The packing that the rules make, what both packers make, what the demand wants of the bytes taken, what both unpackers do.

@@ -1,15 +1,18 @@
 //! Compares the port's library with the Rust.
 //!
 //!   compare [SECONDS] [SEED]   the whole comparison
-//!   compare --case 'pu ...'    one case, both answers; also pp, iu, is and d3
+//!   compare --case 'pu ...'    one case, both answers; also pp, iu, is, pc, pb and d3
 //!   compare --differences      what the Rust does outside document 01's domain, and what the port does
 
 mod differences;
 
+use comparer::encoding::check::Encoders;
 use comparer::picture::check::Pictures;
 use comparer::shrink::shrink;
-use comparer::{demand, packing, picture, unpacking, Comparer, Library, Outcome};
+use comparer::{demand, encoding, packing, picture, unpacking, Comparer, Library, Outcome};
 use ours::{rdp6_compress_8bpp_plane, rdp6_decode, rdp6_decompress_8bpp_plane, rdp6_image_size, rdp6_work_size};
+use ours::{rdp6_encode_bitmap, rdp6_encode_bitmap_alpha};
+use ours::{rdp6_encode_channels_stream, rdp6_encode_channels_stream_alpha};
 use std::process::ExitCode;
 use std::time::{Duration, Instant};
 
@@ -33,7 +36,10 @@ fn usage() -> ExitCode {
     eprintln!("usage: run [SECONDS] [SEED] | run --case CASE | run --differences");
     eprintln!("  a CASE is 'pu WIDTH HEIGHT BODY DST', 'pp WIDTH HEIGHT SAMPLES DST',");
     eprintln!("  'iu WIDTH HEIGHT RLE ALPHA DEF BODY WORK IMAGE' with DEF argb or LEVEL:SUBSAMPLED,");
-    eprintln!("  'is WIDTH HEIGHT RLE DEFINITION SUBSAMPLED' or 'd3 WIDTH HEIGHT SAMPLES M FOLLOWING DST'");
+    eprintln!(
+        "  'is WIDTH HEIGHT RLE DEFINITION SUBSAMPLED', 'pc WIDTH HEIGHT RLE R G B A DST' with A none or samples,"
+    );
+    eprintln!("  'pb WIDTH HEIGHT RLE ALPHA PIXELS DST' or 'd3 WIDTH HEIGHT SAMPLES M FOLLOWING DST'");
     ExitCode::from(2)
 }
 
@@ -48,6 +54,12 @@ const LIBRARY: Library = Library {
     unpack: rdp6_decompress_8bpp_plane,
     pack: rdp6_compress_8bpp_plane,
     pictures: Pictures { decode: rdp6_decode, work_size: rdp6_work_size, image_size: rdp6_image_size },
+    encoders: Encoders {
+        channels: rdp6_encode_channels_stream,
+        channels_alpha: rdp6_encode_channels_stream_alpha,
+        bitmap: rdp6_encode_bitmap,
+        bitmap_alpha: rdp6_encode_bitmap_alpha,
+    },
 };
 
 /// Compares until the time is over, the part that is the same every time always whole.
@@ -55,6 +67,7 @@ fn compare(seconds: u64, seed: u64) -> ExitCode {
     println!("plane unpacking: the Rust's decompress_8bpp_plane and the library's rdp6_decompress_8bpp_plane");
     println!("plane packing: the Rust's compress_8bpp_plane and the library's rdp6_compress_8bpp_plane");
     println!("picture unpacking: the Rust's BitmapStreamDecoderImpl and the library's rdp6_decode");
+    println!("picture packing: the Rust's BitmapStreamEncoder and the library's four functions rdp6_encode_..");
     println!("{seconds} seconds, seed {seed}; each case is called twice, its slices at either end of guarded pages");
     let mut comparer = Comparer::new(LIBRARY);
     let outcome = all_cases(&mut comparer, Duration::from_secs(seconds), seed);
@@ -77,15 +90,20 @@ fn all_cases(comparer: &mut Comparer, time: Duration, seed: u64) -> Outcome {
     let mut unpacking = unpacking::random::Random::new(seed);
     let mut packing = packing::random::Random::new(seed);
     let mut pictures = picture::random::Random::new(seed);
+    let mut encoding = encoding::random::Random::new(seed);
     let mut demand = demand::random::Random::new(seed);
-    let mut kinds: [Random<'_>; 4] = [
+    let mut kinds: [Random<'_>; KINDS] = [
         ("unpacking", &mut |comparer| unpacking.round(comparer)),
         ("packing", &mut |comparer| packing.round(comparer)),
         ("pictures", &mut |comparer| pictures.round(comparer)),
+        ("picture packing", &mut |comparer| encoding.round(comparer)),
         ("demand 3", &mut |comparer| demand.round(comparer)),
     ];
     random_cases(comparer, &mut kinds, end)
 }
+
+/// How many kinds of random cases there are.
+const KINDS: usize = 5;
 
 /// A kind of random cases: its name, and a round of it.
 type Random<'a> = (&'static str, &'a mut dyn FnMut(&mut Comparer) -> Outcome);
@@ -98,11 +116,11 @@ struct Share {
 }
 
 /// Rounds of the kinds, always of the one that has had the least time so far.
-fn random_cases(comparer: &mut Comparer, kinds: &mut [Random<'_>; 4], end: Instant) -> Outcome {
-    let mut shares = [Share::default(); 4];
+fn random_cases(comparer: &mut Comparer, kinds: &mut [Random<'_>; KINDS], end: Instant) -> Outcome {
+    let mut shares = [Share::default(); KINDS];
     let mut now = Instant::now();
     while now < end {
-        let least = (0..4).min_by_key(|&kind| shares[kind].time).expect("there are kinds");
+        let least = (0..KINDS).min_by_key(|&kind| shares[kind].time).expect("there are kinds");
         let before = comparer.tally.total();
         (kinds[least].1)(comparer)?;
         let begin = std::mem::replace(&mut now, Instant::now());
@@ -118,10 +136,11 @@ fn random_cases(comparer: &mut Comparer, kinds: &mut [Random<'_>; 4], end: Insta
 /// The parts that are the same every time, with the seconds that they take.
 fn fixed_cases(comparer: &mut Comparer) -> Outcome {
     type Part = fn(&mut Comparer) -> Outcome;
-    let parts: [(&str, Part); 4] = [
+    let parts: [(&str, Part); 5] = [
         ("unpacking", unpacking::fixed::run),
         ("packing", packing::fixed::run),
         ("pictures", picture::fixed::run),
+        ("picture packing", encoding::fixed::run),
         ("demand 3", demand::fixed::run),
     ];
     for (name, run) in parts {

@@ -2,6 +2,7 @@
 
 use crate::bytes;
 use crate::case::{Case, Operation, Owned};
+use crate::encoding::check::{Encoders, Packed};
 use crate::input::{Input, View};
 use crate::lend::{Lender, Loan, Side, SIDES};
 use crate::picture::check::{Afters, Pictures};
@@ -19,6 +20,7 @@ pub struct Library {
     pub unpack: Function,
     pub pack: Function,
     pub pictures: Pictures,
+    pub encoders: Encoders,
 }
 
 impl Library {
@@ -84,6 +86,8 @@ pub struct Comparer {
     pub(crate) got_after: Vec<u8>,
     /// The same of a picture's two slices.
     pub(crate) afters: Afters,
+    /// The same of a picture's packing.
+    pub(crate) packed: Packed,
     pub tally: Tally,
 }
 
@@ -95,6 +99,7 @@ impl Comparer {
             wanted_after: Vec::new(),
             got_after: Vec::new(),
             afters: Afters::default(),
+            packed: Packed::default(),
             tally: Tally::default(),
         }
     }
@@ -118,6 +123,7 @@ impl Comparer {
             Input::Call(case) => self.look_at_call(case),
             Input::Picture(case) => self.look_at_picture(case),
             Input::Sizes(case) => self.look_at_sizes(case),
+            Input::Encoding(case) => self.look_at_encoding(case),
             Input::Demand(case) => self.look_at_demand(case),
         }
     }

@@ -1,7 +1,9 @@
-//! What can differ: one call of a plane coder, one of a picture decoder, what the sizes are said to be, or one case of demand 3.
+//! What can differ: one call of a plane coder, of a picture decoder or of a picture encoder, what the sizes are said to be, or
+//! one case of demand 3.
 
 use crate::case::{Case, Owned};
 use crate::demand::Demand;
+use crate::encoding::{Encoding, OwnedEncoding};
 use crate::picture::{OwnedPicture, Picture, Sizes};
 use std::fmt;
 
@@ -11,6 +13,7 @@ pub enum Input {
     Call(Owned),
     Picture(OwnedPicture),
     Sizes(Sizes),
+    Encoding(OwnedEncoding),
     Demand(Demand),
 }
 
@@ -19,6 +22,7 @@ pub enum Input {
 pub enum View<'a> {
     Call(Case<'a>),
     Picture(Picture<'a>),
+    Encoding(Encoding<&'a [u8]>),
 }
 
 impl View<'_> {
@@ -26,17 +30,19 @@ impl View<'_> {
         match self {
             View::Call(case) => Input::Call(case.to_owned()),
             View::Picture(case) => Input::Picture(case.to_owned()),
+            View::Encoding(case) => Input::Encoding(case.to_owned()),
         }
     }
 }
 
 impl Input {
-    /// Reads a case that begins with `pu`, `pp`, `iu`, `is` or `d3`.
+    /// Reads a case that begins with `pu`, `pp`, `iu`, `is`, `pc`, `pb` or `d3`.
     pub fn parse(text: &str) -> Option<Input> {
         Owned::parse(text)
             .map(Input::Call)
             .or_else(|| OwnedPicture::parse(text).map(Input::Picture))
             .or_else(|| Sizes::parse(text).map(Input::Sizes))
+            .or_else(|| OwnedEncoding::parse(text).map(Input::Encoding))
             .or_else(|| Demand::parse(text).map(Input::Demand))
     }
 
@@ -46,6 +52,7 @@ impl Input {
             Input::Call(case) => case.view().refused_at_entry().is_none(),
             Input::Picture(case) => case.view().refused_outside().is_none(),
             Input::Sizes(_) => false,
+            Input::Encoding(case) => case.is_inside(),
             Input::Demand(_) => return "the model",
         };
         if by_rust {
@@ -62,6 +69,7 @@ impl fmt::Display for Input {
             Input::Call(case) => case.fmt(f),
             Input::Picture(case) => case.fmt(f),
             Input::Sizes(case) => case.fmt(f),
+            Input::Encoding(case) => case.fmt(f),
             Input::Demand(case) => case.fmt(f),
         }
     }

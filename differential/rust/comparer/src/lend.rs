@@ -250,7 +250,7 @@ impl<'a> Loan<'a> {
 }
 
 /// No call has more slices.
-const SLICES: usize = 3;
+const SLICES: usize = 5;
 
 /// All that can be lent: for each slice of a call, the regions by number of pages.
 #[derive(Default)]

@@ -1,11 +1,12 @@
-//! Holds a plane unpacker, a plane packer and a picture decoder to the Rust inside document 01's domain and to document 01
-//! outside it, byte by byte, on slices whose surroundings are watched; and both pairs of plane coders, the Rust's and the
-//! library's, to demand 3.
+//! Holds a plane unpacker, a plane packer, a picture decoder and picture encoders to the Rust inside document 01's domain and to
+//! document 01 outside it, byte by byte, on slices whose surroundings are watched; and both pairs of plane coders, the Rust's
+//! and the library's, to demand 3.
 
 pub mod bytes;
 pub mod case;
 pub mod check;
 pub mod demand;
+pub mod encoding;
 pub mod input;
 pub mod lend;
 pub mod packing;

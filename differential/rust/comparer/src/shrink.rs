@@ -2,6 +2,7 @@
 
 mod call;
 mod demand;
+mod encoding;
 mod pack;
 mod picture;
 mod plane;
@@ -41,6 +42,7 @@ fn smaller_inputs(input: &Input) -> Box<dyn Iterator<Item = Input> + '_> {
         },
         Input::Picture(case) => Box::new(picture::smaller(case).map(Input::Picture)),
         Input::Sizes(case) => Box::new(picture::smaller_sizes(case).map(Input::Sizes)),
+        Input::Encoding(case) => Box::new(encoding::smaller(case).map(Input::Encoding)),
         Input::Demand(case) => Box::new(demand::smaller(case).map(Input::Demand)),
     }
 }

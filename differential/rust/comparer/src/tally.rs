@@ -10,6 +10,7 @@ enum Part {
     Packing,
     Pictures,
     Sizes,
+    Encoding,
     Demand,
 }
 
@@ -78,6 +79,19 @@ pub enum Kind {
     RandomBodies,
     RandomRefused,
     SizesTable,
+    EncodingExamples,
+    EncodingTable,
+    EncodingOrder,
+    EncodingSources,
+    EncodingPixels,
+    EncodingSmall,
+    EncodingTelling,
+    EncodingRooms,
+    EncodingLongSides,
+    EncodingLargest,
+    RandomEncodings,
+    RandomEncodingSources,
+    RandomEncodingSides,
     DemandSmall,
     DemandTelling,
     DemandLong,
@@ -85,7 +99,7 @@ pub enum Kind {
 }
 
 /// Each kind with its part and its line of the report, in the order of the enum.
-const KINDS: [(Kind, Part, &str); 46] = [
+const KINDS: [(Kind, Part, &str); 59] = [
     (Kind::Short, Part::Unpacking, "all bodies of up to 2 bytes"),
     (Kind::Alphabet, Part::Unpacking, "bodies of 3 to 5 bytes of a telling alphabet"),
     (Kind::Rooms, Part::Unpacking, "every destination length around width x height"),
@@ -128,6 +142,19 @@ const KINDS: [(Kind, Part, &str); 46] = [
     (Kind::RandomBodies, Part::Pictures, "bodies made segment by segment or of noise"),
     (Kind::RandomRefused, Part::Pictures, "random sides, levels, definitions outside the domain"),
     (Kind::SizesTable, Part::Sizes, "a table of sides"),
+    (Kind::EncodingExamples, Part::Encoding, "small inputs that document 01 decides"),
+    (Kind::EncodingTable, Part::Encoding, "a table of sides, most of them refused"),
+    (Kind::EncodingOrder, Part::Encoding, "several refusals at once"),
+    (Kind::EncodingSources, Part::Encoding, "each source short, exact, long"),
+    (Kind::EncodingPixels, Part::Encoding, "slices of pixels of every length"),
+    (Kind::EncodingSmall, Part::Encoding, "all pictures of up to 3 pixels, or 2 of four planes"),
+    (Kind::EncodingTelling, Part::Encoding, "rows of telling runs and literals"),
+    (Kind::EncodingRooms, Part::Encoding, "destinations around every segment's end"),
+    (Kind::EncodingLongSides, Part::Encoding, "sides of 8191 and 8192"),
+    (Kind::EncodingLargest, Part::Encoding, "pictures of 8192 x 8192"),
+    (Kind::RandomEncodings, Part::Encoding, "random pictures"),
+    (Kind::RandomEncodingSources, Part::Encoding, "random pictures, sources longer or shorter"),
+    (Kind::RandomEncodingSides, Part::Encoding, "random sides outside the domain"),
     (Kind::DemandSmall, Part::Demand, "all planes of up to 8 samples, every cut"),
     (Kind::DemandTelling, Part::Demand, "rows of telling runs and literals"),
     (Kind::DemandLong, Part::Demand, "sides of 8191 and 8192"),
@@ -141,6 +168,8 @@ struct Answers {
     /// By the number of the refusal: inside the domain, and outside it.
     refused: [u64; 13],
     refused_outside: [u64; 13],
+    /// What document 01 has done outside the domain.
+    done_outside: u64,
 }
 
 /// `by 7: 3, by 8: 0` and so on.
@@ -155,7 +184,7 @@ impl Answers {
     }
 
     fn outside(&self) -> u64 {
-        self.refused_outside.iter().sum()
+        self.done_outside + self.refused_outside.iter().sum::<u64>()
     }
 
     fn all(&self) -> u64 {
@@ -167,19 +196,24 @@ impl Answers {
         writeln!(f, "  inside the domain, held to the Rust: {}", self.inside())?;
         writeln!(f, "    ({done} {}, refused {})", self.done, listed(&self.refused, inside))?;
         writeln!(f, "  outside the domain, held to document 01: {}", self.outside())?;
-        writeln!(f, "    (refused {})", listed(&self.refused_outside, outside))
+        match self.done_outside {
+            0 => writeln!(f, "    (refused {})", listed(&self.refused_outside, outside)),
+            count => writeln!(f, "    ({done} {count}, refused {})", listed(&self.refused_outside, outside)),
+        }
     }
 }
 
 #[derive(Clone)]
 pub struct Tally {
     kinds: [u64; KINDS.len()],
-    parts: [Answers; 5],
+    parts: [Answers; 6],
+    /// How many packed pictures were unpacked again.
+    pub unpacked_again: u64,
 }
 
 impl Default for Tally {
     fn default() -> Self {
-        Tally { kinds: [0; KINDS.len()], parts: Default::default() }
+        Tally { kinds: [0; KINDS.len()], parts: Default::default(), unpacked_again: 0 }
     }
 }
 
@@ -189,6 +223,7 @@ impl Tally {
         let answers = &mut self.parts[KINDS[kind as usize].1 as usize];
         match (wanted, judge) {
             (Answer::Refused(number), Judge::Document) => answers.refused_outside[usize::from(*number)] += 1,
+            (_, Judge::Document) => answers.done_outside += 1,
             (Answer::Refused(number), _) => answers.refused[usize::from(*number)] += 1,
             _ => answers.done += 1,
         }
@@ -209,7 +244,7 @@ impl Tally {
 
 impl fmt::Display for Tally {
     fn fmt(&self, f: &mut fmt::Formatter<'_>) -> fmt::Result {
-        let [unpacking, packing, pictures, sizes, demand] = &self.parts;
+        let [unpacking, packing, pictures, sizes, encoding, demand] = &self.parts;
         writeln!(f, "plane unpacking: {}", unpacking.all())?;
         self.write_kinds(f, Part::Unpacking)?;
         unpacking.write(f, "read", &[7, 8, 9], &[1, 2, 10])?;
@@ -220,6 +255,10 @@ impl fmt::Display for Tally {
         self.write_kinds(f, Part::Pictures)?;
         pictures.write(f, "made", &[4, 7, 8, 9], &[1, 2, 3, 4, 5, 6])?;
         writeln!(f, "sizes of work area and image, held to formulas: {}", sizes.all())?;
+        writeln!(f, "picture packing: {}", encoding.all())?;
+        self.write_kinds(f, Part::Encoding)?;
+        encoding.write(f, "written", &[12], &[1, 2, 11, 12])?;
+        writeln!(f, "  unpacked again by the Rust, all that was written: {}", self.unpacked_again)?;
         writeln!(f, "demand 3, packed and unpacked again: {}", demand.all())?;
         self.write_kinds(f, Part::Demand)?;
         writeln!(f, "  both pairs held to a model of document 01's rules: {}", demand.all())?;

@@ -9,7 +9,7 @@ use comparer::picture::random::Random;
 use comparer::picture::Form;
 use comparer::Library;
 use support::decoder::{least_plane, pictures, unpacked, Call, Decoder, Right};
-use support::{Search, RIGHT_PACK, RIGHT_UNPACK};
+use support::{Search, RIGHT_LIBRARY};
 
 const SEARCH: Search = Search {
     fixed: fixed::run,
@@ -23,7 +23,7 @@ const SEARCH: Search = Search {
 
 /// The decoder beside right coders of planes.
 fn with<D: Decoder>() -> Library {
-    Library { unpack: RIGHT_UNPACK, pack: RIGHT_PACK, pictures: pictures::<D>() }
+    Library { pictures: pictures::<D>(), ..RIGHT_LIBRARY }
 }
 
 #[test]

@@ -7,7 +7,7 @@ use comparer::packing::fixed;
 use comparer::packing::random::Random;
 use comparer::{Function, Library};
 use std::cell::RefCell;
-use support::{exported, first_refused, Call, Search, Slices, RIGHT_PICTURES, RIGHT_UNPACK};
+use support::{exported, first_refused, Call, Search, Slices, RIGHT_LIBRARY};
 
 const RIGHT: u8 = 0;
 const TWO_REPEATS_CLOSE: u8 = 1;
@@ -275,7 +275,7 @@ const SEARCH: Search = Search {
 
 /// The packer beside a right unpacker.
 fn with(pack: Function) -> Library {
-    Library { unpack: RIGHT_UNPACK, pack, pictures: RIGHT_PICTURES }
+    Library { pack, ..RIGHT_LIBRARY }
 }
 
 fn is_found(packer: Function, smallest: &str) {

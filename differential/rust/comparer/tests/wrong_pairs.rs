@@ -6,7 +6,7 @@ use comparer::demand::random::Random;
 use comparer::demand::{fixed, Model};
 use comparer::planes::{counts, segment_starts};
 use comparer::{Function, Library};
-use support::{exported, Call, RightPack, Search, Slices, RIGHT_PACK, RIGHT_PICTURES, RIGHT_UNPACK};
+use support::{exported, Call, RightPack, Search, Slices, RIGHT_LIBRARY, RIGHT_UNPACK};
 
 const ALWAYS_7: u8 = 1;
 const SEVEN_IF_CUT: u8 = 2;
@@ -167,28 +167,25 @@ fn pair_is_found(library: Library, smallest: &str) {
 }
 
 fn is_found(unpack: Function, smallest: &str) {
-    pair_is_found(Library { unpack, pack: RIGHT_PACK, pictures: RIGHT_PICTURES }, smallest);
+    pair_is_found(Library { unpack, ..RIGHT_LIBRARY }, smallest);
 }
 
 #[test]
 fn a_right_pair_has_no_difference() {
-    SEARCH.finds_nothing(Library { unpack: RIGHT_UNPACK, pack: RIGHT_PACK, pictures: RIGHT_PICTURES });
+    SEARCH.finds_nothing(RIGHT_LIBRARY);
 }
 
 #[test]
 fn complements_packed_and_unpacked() {
     pair_is_found(
-        Library { unpack: exported::<UnpackComplements>, pack: exported::<PackComplements>, pictures: RIGHT_PICTURES },
+        Library { unpack: exported::<UnpackComplements>, pack: exported::<PackComplements>, ..RIGHT_LIBRARY },
         "d3 1 1 00 0 - EE",
     );
 }
 
 #[test]
 fn every_value_a_segment_of_its_own() {
-    pair_is_found(
-        Library { unpack: RIGHT_UNPACK, pack: exported::<PackSingly>, pictures: RIGHT_PICTURES },
-        "d3 2 1 0000 0 - EEEE",
-    );
+    pair_is_found(Library { pack: exported::<PackSingly>, ..RIGHT_LIBRARY }, "d3 2 1 0000 0 - EEEE");
 }
 
 #[test]

@@ -7,7 +7,7 @@ use comparer::planes::counts;
 use comparer::unpacking::fixed;
 use comparer::unpacking::random::Random;
 use comparer::{Function, Library};
-use support::{exported, first_refused, Call, Search, Slices, RIGHT_PACK, RIGHT_PICTURES};
+use support::{exported, first_refused, Call, Search, Slices, RIGHT_LIBRARY};
 
 const RIGHT: u8 = 0;
 const LAST_BYTE_CARRIED: u8 = 1;
@@ -193,7 +193,7 @@ const SEARCH: Search = Search {
 
 /// The unpacker beside a right packer.
 fn with(unpack: Function) -> Library {
-    Library { unpack, pack: RIGHT_PACK, pictures: RIGHT_PICTURES }
+    Library { unpack, ..RIGHT_LIBRARY }
 }
 
 fn is_found(unpacker: Function, smallest: &str) {

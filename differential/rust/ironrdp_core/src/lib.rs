@@ -1,6 +1,8 @@
 //! Stands in for the crate `ironrdp_core`. Of it the plane coder uses `WriteCursor`: a slice and how far it is written. The
-//! picture decoder names `decode` and its error, but is entered behind them.
+//! picture decoder names `decode` and its error, but is entered behind them. The picture encoder writes its header through
+//! `encode_cursor`, and refuses what has no room with `not_enough_bytes_err`.
 
+use std::convert::Infallible;
 use std::fmt;
 
 /// What a parser could not read, without its reasons.
@@ -22,6 +24,32 @@ pub trait Decode<'de>: Sized {
 
 pub fn decode<'de, T: Decode<'de>>(src: &'de [u8]) -> Result<T, DecodeError> {
     T::decode(src)
+}
+
+/// What could not be written, without its reasons.
+#[derive(Debug)]
+pub struct EncodeError;
+
+impl fmt::Display for EncodeError {
+    fn fmt(&self, f: &mut fmt::Formatter<'_>) -> fmt::Result {
+        write!(f, "not written")
+    }
+}
+
+impl std::error::Error for EncodeError {}
+
+/// What can be written.
+pub trait Encode {
+    fn encode(&self, dst: &mut WriteCursor<'_>) -> Result<(), EncodeError>;
+}
+
+pub fn encode_cursor<T: Encode>(pdu: &T, dst: &mut WriteCursor<'_>) -> Result<(), EncodeError> {
+    pdu.encode(dst)
+}
+
+/// The error of a destination that is too short. What its last argument can hold is not known here; only `None` is given.
+pub fn not_enough_bytes_err(_: &'static str, _received: usize, _expected: usize, _: Option<Infallible>) -> EncodeError {
+    EncodeError
 }
 
 pub struct WriteCursor<'a> {

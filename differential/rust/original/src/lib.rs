@@ -4,21 +4,24 @@
 include!(concat!(env!("OUT_DIR"), "/modules.rs"));
 
 mod color_conversion;
+mod encoder;
 mod panics;
 mod picture;
 
+pub use encoder::{encode_bitmap, encode_channels, Encoded};
 pub use picture::{decode, Definition, Header};
 
 use ironrdp_core::WriteCursor;
 use rdp6::rle::{compress_8bpp_plane, decompress_8bpp_plane, RleDecodeError, RleEncodeError};
 use std::fmt;
 
-/// What the Rust answers to a plane that it is to unpack or to pack, or to a picture that it is to unpack.
+/// What the Rust answers to a plane or a picture that it is to unpack or to pack.
 #[derive(Clone, Debug, PartialEq, Eq)]
 pub enum Answer {
-    /// So many bytes were read by unpacking a plane, or written by packing one; or so many bytes of image were made.
+    /// So many bytes were read by unpacking a plane, or written by packing one or a picture; or so many bytes of image were
+    /// made.
     Done(usize),
-    /// Document 01's number: 7, 8 or 9 from unpacking, 11 or 12 from packing; 4, 7, 8 or 9 from a picture.
+    /// Document 01's number: 7, 8 or 9 from unpacking, 4 too from a picture; 11 or 12 from packing.
     Refused(u8),
     /// The destination ended inside the first row. No number of document 01: it refuses by 10 before.
     WriteError,
@@ -33,6 +36,13 @@ impl Answer {
             RleDecodeError::InvalidSegmentHeader => Answer::Refused(8),
             RleDecodeError::SegmentDoNotFitScanline => Answer::Refused(9),
             RleDecodeError::WriteDecompressedData(_) => Answer::WriteError,
+        }
+    }
+
+    fn of_packing(error: RleEncodeError) -> Answer {
+        match error {
+            RleEncodeError::NotEnoughBytes => Answer::Refused(11),
+            RleEncodeError::BufferTooSmall => Answer::Refused(12),
         }
     }
 
@@ -72,8 +82,7 @@ pub fn compress(samples: &[u8], dst: &mut [u8], width: usize, height: usize) -> 
     let mut cursor = WriteCursor::new(dst);
     match panics::caught(|| compress_8bpp_plane(samples.iter().copied(), &mut cursor, width, height)) {
         Ok(Ok(count)) => Answer::Done(count),
-        Ok(Err(RleEncodeError::NotEnoughBytes)) => Answer::Refused(11),
-        Ok(Err(RleEncodeError::BufferTooSmall)) => Answer::Refused(12),
+        Ok(Err(error)) => Answer::of_packing(error),
         Err(place) => Answer::Panic(place),
     }
 }

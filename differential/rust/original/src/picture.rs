@@ -20,6 +20,18 @@ pub struct Header {
 }
 
 impl Header {
+    /// What the stand-in for the header's encoder wrote as this byte, if it did.
+    pub(crate) fn of_byte(byte: u8) -> Option<Header> {
+        let header = BitmapStreamHeader::of_byte(byte)?;
+        let definition = match header.color_plane_definition {
+            ColorPlaneDefinition::Argb => Definition::Argb,
+            ColorPlaneDefinition::AYCoCg { color_loss_level, use_chroma_subsampling } => {
+                Definition::AYCoCg { loss_level: color_loss_level, subsampled: use_chroma_subsampling }
+            }
+        };
+        Some(Header { rle: header.enable_rle_compression, alpha: header.use_alpha, definition })
+    }
+
     fn parsed(self) -> BitmapStreamHeader {
         let color_plane_definition = match self.definition {
             Definition::Argb => ColorPlaneDefinition::Argb,

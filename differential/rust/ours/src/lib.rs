@@ -43,6 +43,60 @@ extern "C" {
 
     /// The image that a picture needs, 0 if its sides are refused.
     pub fn rdp6_image_size(width: usize, height: usize) -> usize;
+
+    /// Packs a picture of R, G and B. Answers the bytes written, or minus the refusal's number.
+    pub fn rdp6_encode_channels_stream(
+        r: *const u8,
+        r_len: usize,
+        g: *const u8,
+        g_len: usize,
+        b: *const u8,
+        b_len: usize,
+        dst: *mut u8,
+        dst_len: usize,
+        rle: bool,
+        width: usize,
+        height: usize,
+    ) -> i64;
+
+    /// The same with an alpha plane.
+    pub fn rdp6_encode_channels_stream_alpha(
+        r: *const u8,
+        r_len: usize,
+        g: *const u8,
+        g_len: usize,
+        b: *const u8,
+        b_len: usize,
+        a: *const u8,
+        a_len: usize,
+        dst: *mut u8,
+        dst_len: usize,
+        rle: bool,
+        width: usize,
+        height: usize,
+    ) -> i64;
+
+    /// Packs a picture of pixels of B, G, R and A, of which A is left out. Answers as the others do.
+    pub fn rdp6_encode_bitmap(
+        src: *const u8,
+        src_len: usize,
+        dst: *mut u8,
+        dst_len: usize,
+        rle: bool,
+        width: usize,
+        height: usize,
+    ) -> i64;
+
+    /// The same with an alpha plane.
+    pub fn rdp6_encode_bitmap_alpha(
+        src: *const u8,
+        src_len: usize,
+        dst: *mut u8,
+        dst_len: usize,
+        rle: bool,
+        width: usize,
+        height: usize,
+    ) -> i64;
 }
 
 /// Unpacking on slices, for callers that do not care where they lie.
@@ -87,4 +141,47 @@ pub fn decode(form: Form, body: &[u8], work: &mut [u8], image: &mut [u8], width:
             height,
         )
     }
+}
+
+/// Packing a picture of channels on slices: of R, G and B, and of A if that is given.
+pub fn encode_channels(
+    [r, g, b]: [&[u8]; 3],
+    alpha: Option<&[u8]>,
+    dst: &mut [u8],
+    rle: bool,
+    width: usize,
+    height: usize,
+) -> i64 {
+    let (r_at, g_at, b_at, dst_at) = (r.as_ptr(), g.as_ptr(), b.as_ptr(), dst.as_mut_ptr());
+    let (r_len, g_len, b_len, room) = (r.len(), g.len(), b.len(), dst.len());
+    // SAFETY: all are lent for the call, with their lengths.
+    unsafe {
+        match alpha {
+            None => {
+                rdp6_encode_channels_stream(r_at, r_len, g_at, g_len, b_at, b_len, dst_at, room, rle, width, height)
+            }
+            Some(a) => rdp6_encode_channels_stream_alpha(
+                r_at,
+                r_len,
+                g_at,
+                g_len,
+                b_at,
+                b_len,
+                a.as_ptr(),
+                a.len(),
+                dst_at,
+                room,
+                rle,
+                width,
+                height,
+            ),
+        }
+    }
+}
+
+/// Packing a picture of pixels on slices.
+pub fn encode_bitmap(pixels: &[u8], alpha: bool, dst: &mut [u8], rle: bool, width: usize, height: usize) -> i64 {
+    let encode = if alpha { rdp6_encode_bitmap_alpha } else { rdp6_encode_bitmap };
+    // SAFETY: both are lent for the call, with their lengths.
+    unsafe { encode(pixels.as_ptr(), pixels.len(), dst.as_mut_ptr(), dst.len(), rle, width, height) }
 }

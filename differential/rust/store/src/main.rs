@@ -3,14 +3,21 @@
 //!
 //!   WIDTH HEIGHT ROOM ANSWER SOURCE AFTER
 //!
-//! and one for unpacking of pictures,
+//! one for unpacking of pictures,
 //!
 //!   WIDTH HEIGHT RLE ALPHA DEFINITION LEVEL SUBSAMPLED WORKROOM IMAGEROOM ANSWER BODY WORK-AFTER IMAGE-AFTER
+//!
+//! and two for packing of pictures, from channels and from pixels,
+//!
+//!   WIDTH HEIGHT RLE ALPHA ROOM ANSWER SENTRLE SENTALPHA SENTDEFINITION R G B A AFTER
+//!   WIDTH HEIGHT RLE ALPHA ROOM ANSWER SENTRLE SENTALPHA SENTDEFINITION PIXELS AFTER
 //!
 //! README.md has the format. The samples are the same in every run.
 //!
 //!   store FOLDER
 
+mod encoding_sample;
+mod encodings;
 mod pack_sample;
 mod picture_sample;
 mod pictures;
@@ -18,6 +25,7 @@ mod sample;
 
 use comparer::bytes;
 use comparer::case::{Operation, Owned};
+use encodings::Entry;
 use std::collections::HashSet;
 use std::path::Path;
 use std::process::ExitCode;
@@ -85,10 +93,12 @@ impl Stored {
 /// A file's name, and what makes its lines.
 type Sample = (&'static str, fn() -> Lines);
 
-const SAMPLES: [Sample; 3] = [
+const SAMPLES: [Sample; 5] = [
     ("plane-unpack.txt", || Stored::lines_of(Operation::Unpack, sample::keep_all)),
     ("plane-pack.txt", || Stored::lines_of(Operation::Pack, pack_sample::keep_all)),
     ("picture-unpack.txt", pictures::lines),
+    ("channels-pack.txt", || encodings::lines(Entry::Channels)),
+    ("bitmap-pack.txt", || encodings::lines(Entry::Bitmap)),
 ];
 
 fn main() -> ExitCode {

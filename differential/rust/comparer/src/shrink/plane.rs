@@ -22,13 +22,13 @@ pub fn smaller_planes(width: usize, height: usize, samples: &[u8]) -> impl Itera
         .chain(narrower.map(move |piece| without_columns(width, height, samples, piece)))
 }
 
-fn without_rows(width: usize, height: usize, samples: &[u8], piece: Range<usize>) -> Smaller {
+pub fn without_rows(width: usize, height: usize, samples: &[u8], piece: Range<usize>) -> Smaller {
     let left = height - piece.len();
     let samples = [&samples[..piece.start * width], &samples[piece.end * width..]].concat();
     Smaller { width, height: left, samples }
 }
 
-fn without_columns(width: usize, height: usize, samples: &[u8], piece: Range<usize>) -> Smaller {
+pub fn without_columns(width: usize, height: usize, samples: &[u8], piece: Range<usize>) -> Smaller {
     let (plane, beyond) = samples.split_at(width * height);
     let mut samples = Vec::with_capacity(plane.len());
     for row in plane.chunks(width) {

@@ -3,8 +3,8 @@
 #![allow(dead_code)]
 
 pub mod decoder;
+pub mod encoder;
 
-use comparer::picture::check::Pictures;
 use comparer::shrink::shrink;
 use comparer::{Case, Comparer, Difference, Function, Library, Outcome};
 
@@ -97,10 +97,15 @@ impl Call for RightPack {
     }
 }
 
-/// An unpacker, a packer and a picture decoder without a mistake.
 pub const RIGHT_UNPACK: Function = exported::<RightUnpack>;
-pub const RIGHT_PACK: Function = exported::<RightPack>;
-pub const RIGHT_PICTURES: Pictures = decoder::pictures::<decoder::Right>();
+
+/// A library without a mistake.
+pub const RIGHT_LIBRARY: Library = Library {
+    unpack: RIGHT_UNPACK,
+    pack: exported::<RightPack>,
+    pictures: decoder::pictures::<decoder::Right>(),
+    encoders: encoder::encoders::<encoder::Right>(),
+};
 
 /// The order in which the refusals at entry are tested: zero, large, short.
 pub fn first_refused(tests: [(bool, i64); 3], order: [usize; 3]) -> i64 {

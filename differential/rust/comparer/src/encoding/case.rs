@@ -1,0 +1,252 @@
+//! One call of a picture encoder.
+
+use crate::bytes;
+use crate::case::MAX_SIDE;
+use original::Encoded;
+use std::fmt;
+
+/// The bytes of a pixel.
+pub const STRIDE: usize = 4;
+
+/// What a plane is of.
+#[derive(Clone, Copy, Debug, PartialEq, Eq)]
+pub enum Channel {
+    R,
+    G,
+    B,
+    A,
+}
+
+impl Channel {
+    /// The place in a pixel: B, G, R, A.
+    pub fn place(self) -> usize {
+        match self {
+            Channel::R => 2,
+            Channel::G => 1,
+            Channel::B => 0,
+            Channel::A => 3,
+        }
+    }
+}
+
+/// What a picture is packed from.
+#[derive(Clone, Copy, Debug, PartialEq, Eq)]
+pub enum Sources<Bytes> {
+    /// Samples of R, G and B, and of A if that is packed too.
+    Channels { colours: [Bytes; 3], alpha: Option<Bytes> },
+    /// Pixels, and whether their A is packed too.
+    Pixels { pixels: Bytes, alpha: bool },
+}
+
+impl<Bytes: AsRef<[u8]>> Sources<Bytes> {
+    pub fn has_alpha(&self) -> bool {
+        match self {
+            Sources::Channels { alpha, .. } => alpha.is_some(),
+            Sources::Pixels { alpha, .. } => *alpha,
+        }
+    }
+
+    /// How many planes are packed.
+    pub fn planes(&self) -> usize {
+        3 + usize::from(self.has_alpha())
+    }
+
+    /// The slices, each with the bytes that a sample takes in it.
+    pub fn slices(&self) -> Vec<(&[u8], usize)> {
+        match self {
+            Sources::Channels { colours, alpha } => {
+                colours.iter().chain(alpha).map(|samples| (samples.as_ref(), 1)).collect()
+            }
+            Sources::Pixels { pixels, .. } => vec![(pixels.as_ref(), STRIDE)],
+        }
+    }
+
+    /// How many samples each source has; of pixels the whole ones.
+    pub fn counts(&self) -> impl Iterator<Item = usize> + '_ {
+        self.slices().into_iter().map(|(slice, stride)| slice.len() / stride)
+    }
+
+    /// The same with another slice in this place of `slices`.
+    pub fn with(mut self, at: usize, slice: Bytes) -> Self {
+        match &mut self {
+            Sources::Channels { alpha, .. } if at == 3 => *alpha = Some(slice),
+            Sources::Channels { colours, .. } => colours[at] = slice,
+            Sources::Pixels { pixels, .. } => *pixels = slice,
+        }
+        self
+    }
+
+    pub fn view(&self) -> Sources<&[u8]> {
+        match self {
+            Sources::Channels { colours: [r, g, b], alpha } => Sources::Channels {
+                colours: [r.as_ref(), g.as_ref(), b.as_ref()],
+                alpha: alpha.as_ref().map(Bytes::as_ref),
+            },
+            Sources::Pixels { pixels, alpha } => Sources::Pixels { pixels: pixels.as_ref(), alpha: *alpha },
+        }
+    }
+}
+
+impl<'a> Sources<&'a [u8]> {
+    /// The same with what becomes of each slice, which is given with the bytes that a sample takes in it.
+    pub fn map<Bytes>(self, mut change: impl FnMut(&'a [u8], usize) -> Bytes) -> Sources<Bytes> {
+        match self {
+            Sources::Channels { colours, alpha } => Sources::Channels {
+                colours: colours.map(|samples| change(samples, 1)),
+                alpha: alpha.map(|samples| change(samples, 1)),
+            },
+            Sources::Pixels { pixels, alpha } => Sources::Pixels { pixels: change(pixels, STRIDE), alpha },
+        }
+    }
+
+    /// The samples of a channel; none of A if there is none.
+    pub fn samples(self, channel: Channel) -> impl Iterator<Item = u8> + 'a {
+        let (slice, start, stride) = match self {
+            Sources::Channels { colours: [r, g, b], alpha } => {
+                let slice = match channel {
+                    Channel::R => r,
+                    Channel::G => g,
+                    Channel::B => b,
+                    Channel::A => alpha.unwrap_or(&[]),
+                };
+                (slice, 0, 1)
+            }
+            Sources::Pixels { pixels, .. } => (&pixels[..pixels.len() / STRIDE * STRIDE], channel.place(), STRIDE),
+        };
+        slice.get(start..).unwrap_or(&[]).iter().copied().step_by(stride)
+    }
+}
+
+/// The sides, RLE or raw, the sources, and what the destination holds before the call.
+#[derive(Clone, Copy, Debug, PartialEq, Eq)]
+pub struct Encoding<Bytes> {
+    pub width: usize,
+    pub height: usize,
+    pub rle: bool,
+    pub sources: Sources<Bytes>,
+    pub before: Bytes,
+}
+
+/// A case that holds its own bytes.
+pub type OwnedEncoding = Encoding<Vec<u8>>;
+
+impl<Bytes: AsRef<[u8]>> Encoding<Bytes> {
+    /// Document 01's refusal before anything is read: 1, 2 and then 11.
+    pub fn refused_at_entry(&self) -> Option<u8> {
+        if self.width == 0 || self.height == 0 {
+            Some(1)
+        } else if self.width > MAX_SIDE || self.height > MAX_SIDE {
+            Some(2)
+        } else if self.sources.counts().any(|count| count < self.width * self.height) {
+            Some(11)
+        } else {
+            None
+        }
+    }
+
+    /// Whether the case is inside the domain: nothing is refused at entry, and a raw picture has no sample too many.
+    pub fn is_inside(&self) -> bool {
+        let exact = |count| count == self.width * self.height;
+        self.refused_at_entry().is_none() && (self.rle || self.sources.counts().all(exact))
+    }
+
+    pub fn view(&self) -> Encoding<&[u8]> {
+        let Encoding { width, height, rle, .. } = *self;
+        Encoding { width, height, rle, sources: self.sources.view(), before: self.before.as_ref() }
+    }
+}
+
+impl Encoding<&[u8]> {
+    /// The case that document 01 makes of one that is not refused at entry: each source has the first width times height
+    /// samples. It is inside the domain.
+    pub fn with_first_samples(self) -> Self {
+        let samples = self.width * self.height;
+        Encoding { sources: self.sources.map(|slice, stride| &slice[..samples * stride]), ..self }
+    }
+
+    /// What the Rust answers. `after` is its destination, which begins with a byte for the header.
+    pub fn by_rust(&self, after: &mut [u8]) -> Encoded {
+        let Encoding { width, height, rle, .. } = *self;
+        match self.sources {
+            Sources::Channels { colours, alpha } => {
+                original::encode_channels(colours, alpha, after, rle, width, height)
+            }
+            Sources::Pixels { pixels, alpha } => original::encode_bitmap(pixels, alpha, after, rle, width, height),
+        }
+    }
+
+    pub fn to_owned(&self) -> OwnedEncoding {
+        let Encoding { width, height, rle, .. } = *self;
+        let sources = self.sources.map(|slice, _| slice.to_vec());
+        Encoding { width, height, rle, sources, before: self.before.to_vec() }
+    }
+}
+
+fn flag(word: &str) -> Option<bool> {
+    word.parse::<u8>().ok().filter(|&flag| flag < 2).map(|flag| flag == 1)
+}
+
+impl OwnedEncoding {
+    /// Reads `pc WIDTH HEIGHT RLE R G B A DST`, where A can be `none`, or `pb WIDTH HEIGHT RLE ALPHA PIXELS DST`.
+    pub fn parse(text: &str) -> Option<OwnedEncoding> {
+        let words: Vec<&str> = text.split_whitespace().collect();
+        let (width, height, rle, sources, before) = match words[..] {
+            ["pc", width, height, rle, r, g, b, a, before] => {
+                let colours = [bytes::parse(r)?, bytes::parse(g)?, bytes::parse(b)?];
+                let alpha = if a == "none" { None } else { Some(bytes::parse(a)?) };
+                (width, height, rle, Sources::Channels { colours, alpha }, before)
+            }
+            ["pb", width, height, rle, alpha, pixels, before] => {
+                let sources = Sources::Pixels { pixels: bytes::parse(pixels)?, alpha: flag(alpha)? };
+                (width, height, rle, sources, before)
+            }
+            _ => return None,
+        };
+        let (width, height) = (width.parse().ok()?, height.parse().ok()?);
+        Some(Encoding { width, height, rle: flag(rle)?, sources, before: bytes::parse(before)? })
+    }
+}
+
+impl fmt::Display for OwnedEncoding {
+    fn fmt(&self, f: &mut fmt::Formatter<'_>) -> fmt::Result {
+        let Encoding { width, height, .. } = *self;
+        let (rle, before) = (u8::from(self.rle), bytes::text(&self.before));
+        match &self.sources {
+            Sources::Channels { colours, alpha } => {
+                let [r, g, b] = colours.each_ref().map(|samples| bytes::text(samples));
+                let a = alpha.as_ref().map_or("none".to_owned(), |samples| bytes::text(samples));
+                write!(f, "pc {width} {height} {rle} {r} {g} {b} {a} {before}")
+            }
+            Sources::Pixels { pixels, alpha } => {
+                write!(f, "pb {width} {height} {rle} {} {} {before}", u8::from(*alpha), bytes::text(pixels))
+            }
+        }
+    }
+}
+
+#[cfg(test)]
+mod tests {
+    use super::{Channel, OwnedEncoding};
+
+    #[test]
+    fn there_and_back() {
+        for text in [
+            "pc 1 1 0 01 02 03 none EE*4",
+            "pc 2 1 1 0102 0304 0506 - -",
+            "pc 2 1 1 - - - 01 -",
+            "pb 2 1 0 1 0102030405060708AABBCC EE*9",
+        ] {
+            assert_eq!(OwnedEncoding::parse(text).unwrap().to_string(), text);
+        }
+        assert_eq!(OwnedEncoding::parse("pc 1 1 0 01 02 none 03 EE*4"), None);
+        assert_eq!(OwnedEncoding::parse("pb 1 1 0 2 01020304 EE*4"), None);
+    }
+
+    #[test]
+    fn samples_of_whole_pixels() {
+        let case = OwnedEncoding::parse("pb 2 1 0 1 0102030405060708AABBCC -").unwrap();
+        let of = |channel| case.view().sources.samples(channel).collect::<Vec<u8>>();
+        assert_eq!([Channel::R, Channel::G, Channel::B, Channel::A].map(of), [[3, 7], [2, 6], [1, 5], [4, 8]]);
+        assert_eq!(case.sources.counts().collect::<Vec<_>>(), [2]);
+    }
+}

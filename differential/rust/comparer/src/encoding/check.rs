@@ -1,0 +1,222 @@
+//! Compares one picture that is packed with what must become of it.
+
+use crate::check::{answer_text, After, Comparer, Difference, Outcome};
+use crate::encoding::{round_trip, Encoding, OwnedEncoding, Sources};
+use crate::input::{Input, View};
+use crate::lend::{Loan, Side, SIDES};
+use crate::tally::{Judge, Kind};
+use original::{Answer, Definition, Header};
+
+/// `rdp6_encode_channels_stream` as a library has it: R, G, B, destination, RLE, width, height; bytes written, or minus the
+/// refusal's number.
+pub type EncodeChannels = unsafe extern "C" fn(
+    *const u8,
+    usize,
+    *const u8,
+    usize,
+    *const u8,
+    usize,
+    *mut u8,
+    usize,
+    bool,
+    usize,
+    usize,
+) -> i64;
+
+/// The same with A behind B.
+pub type EncodeChannelsAlpha = unsafe extern "C" fn(
+    *const u8,
+    usize,
+    *const u8,
+    usize,
+    *const u8,
+    usize,
+    *const u8,
+    usize,
+    *mut u8,
+    usize,
+    bool,
+    usize,
+    usize,
+) -> i64;
+
+/// The same from pixels.
+pub type EncodeBitmap = unsafe extern "C" fn(*const u8, usize, *mut u8, usize, bool, usize, usize) -> i64;
+
+/// What a library has for packing pictures.
+#[derive(Clone, Copy)]
+pub struct Encoders {
+    pub channels: EncodeChannels,
+    pub channels_alpha: EncodeChannelsAlpha,
+    pub bitmap: EncodeBitmap,
+    pub bitmap_alpha: EncodeBitmap,
+}
+
+/// What the destination must hold after a call, behind the byte of the Rust's header, and what it holds.
+#[derive(Default)]
+pub(crate) struct Packed {
+    wanted: Vec<u8>,
+    got: Vec<u8>,
+}
+
+impl Packed {
+    fn wanted(&self) -> &[u8] {
+        &self.wanted[1..]
+    }
+
+    fn fault(&self, same_answer: bool) -> Option<String> {
+        if !same_answer {
+            Some("the answer".to_owned())
+        } else if self.wanted() != self.got {
+            Some("the destination".to_owned())
+        } else {
+            None
+        }
+    }
+}
+
+fn destination(after: &[u8]) -> After {
+    After(vec![("destination", after.to_vec())])
+}
+
+/// The record that document 01 has sent: RLE as asked, ARGB, and alpha false whatever the planes are.
+pub fn record(rle: bool) -> Header {
+    Header { rle, alpha: false, definition: Definition::Argb }
+}
+
+impl Comparer {
+    /// Compares a picture that is packed and counts it.
+    pub fn compare_encoding(&mut self, kind: Kind, case: Encoding<&[u8]>) -> Outcome {
+        self.compare_encoding_at(kind, case, &SIDES)
+    }
+
+    /// The same with the slices at these sides of their pages only, where both would take too long.
+    pub fn compare_encoding_at(&mut self, kind: Kind, case: Encoding<&[u8]>, sides: &[Side]) -> Outcome {
+        let wanted = self.ask_encoding(case)?;
+        self.tally.count(kind, Judge::rust_if(case.is_inside()), &wanted);
+        self.hold_encoding(case, wanted, sides)
+    }
+
+    pub(crate) fn look_at_encoding(&mut self, case: &OwnedEncoding) -> Outcome {
+        let wanted = self.ask_encoding(case.view())?;
+        self.hold_encoding(case.view(), wanted, &SIDES)
+    }
+
+    /// What must be answered; `packed.wanted` gets what the destination must hold. Where there are samples too many document 01
+    /// says which are used, and the Rust what they make. The Rust itself is held to the record that document 01 has sent.
+    fn ask_encoding(&mut self, case: Encoding<&[u8]>) -> Result<Answer, Box<Difference>> {
+        let wanted = &mut self.packed.wanted;
+        wanted.clear();
+        wanted.push(0);
+        wanted.extend_from_slice(case.before);
+        if let Some(number) = case.refused_at_entry() {
+            return Ok(Answer::Refused(number));
+        }
+        let asked = if case.is_inside() { case } else { case.with_first_samples() };
+        let encoded = asked.by_rust(wanted);
+        if encoded.header == Some(record(case.rle)) {
+            return Ok(encoded.answer);
+        }
+        let got = format!("{}, {:?}", encoded.answer, encoded.header);
+        let after = || destination(case.before);
+        Err(self.unlike(case, "the record".to_owned(), encoded.answer, after(), ("the Rust", got, after())))
+    }
+
+    fn hold_encoding(&mut self, case: Encoding<&[u8]>, wanted: Answer, sides: &[Side]) -> Outcome {
+        for &side in sides {
+            let (got, harm) = self.call_encoder(case, side);
+            if let Some(reason) = harm.or_else(|| self.packed.fault(wanted.number() == Some(got))) {
+                let (wanted_after, got_after) = (destination(self.packed.wanted()), destination(&self.packed.got));
+                let got = ("the library", answer_text(got), got_after);
+                return Err(self.unlike(case, reason, wanted, wanted_after, got));
+            }
+        }
+        match wanted {
+            Answer::Done(count) => self.hold_round_trip(case, count),
+            _ => Ok(()),
+        }
+    }
+
+    /// What the library wrote must be unpacked to what went in.
+    fn hold_round_trip(&mut self, case: Encoding<&[u8]>, count: usize) -> Outcome {
+        self.tally.unpacked_again += 1;
+        let Some(wrong) = round_trip::wrong(case, &self.packed.got[..count]) else {
+            return Ok(());
+        };
+        let reason = format!("the {} unpacked again", wrong.name);
+        let [wanted_after, got_after] = [wrong.wanted, wrong.got].map(|bytes| After(vec![(wrong.name, bytes)]));
+        let got = ("the library, unpacked by the Rust", wrong.answer.to_string(), got_after);
+        Err(self.unlike(case, reason, Answer::Done(count), wanted_after, got))
+    }
+
+    fn unlike(
+        &self,
+        case: Encoding<&[u8]>,
+        reason: String,
+        wanted: Answer,
+        wanted_after: After,
+        (whose, got, got_after): (&'static str, String, After),
+    ) -> Box<Difference> {
+        let case = Input::Encoding(case.to_owned());
+        Box::new(Difference { case, reason, wanted, wanted_after, whose, got, got_after })
+    }
+
+    fn call_encoder(&mut self, case: Encoding<&[u8]>, side: Side) -> (i64, Option<String>) {
+        match case.sources {
+            Sources::Channels { colours, alpha: None } => self.call_channels(case, colours, side),
+            Sources::Channels { colours, alpha: Some(alpha) } => self.call_channels_alpha(case, colours, alpha, side),
+            Sources::Pixels { pixels, alpha } => self.call_bitmap(case, pixels, alpha, side),
+        }
+    }
+
+    fn call_channels(&mut self, case: Encoding<&[u8]>, [r, g, b]: [&[u8]; 3], side: Side) -> (i64, Option<String>) {
+        let Encoding { width, height, rle, before, .. } = case;
+        let encode = self.library.encoders.channels;
+        let loans = [
+            Loan::read("samples of R", r),
+            Loan::read("samples of G", g),
+            Loan::read("samples of B", b),
+            Loan::written("destination", before, &mut self.packed.got),
+        ];
+        let lens = [r, g, b].map(<[u8]>::len);
+        // SAFETY: all are lent for this call. That it keeps to them is what is tested.
+        self.lender.call(View::Encoding(case), side, loans, |[r, g, b, dst]| unsafe {
+            encode(r, lens[0], g, lens[1], b, lens[2], dst, before.len(), rle, width, height)
+        })
+    }
+
+    fn call_channels_alpha(
+        &mut self,
+        case: Encoding<&[u8]>,
+        [r, g, b]: [&[u8]; 3],
+        a: &[u8],
+        side: Side,
+    ) -> (i64, Option<String>) {
+        let Encoding { width, height, rle, before, .. } = case;
+        let encode = self.library.encoders.channels_alpha;
+        let loans = [
+            Loan::read("samples of R", r),
+            Loan::read("samples of G", g),
+            Loan::read("samples of B", b),
+            Loan::read("samples of A", a),
+            Loan::written("destination", before, &mut self.packed.got),
+        ];
+        let lens = [r, g, b, a].map(<[u8]>::len);
+        // SAFETY: all are lent for this call. That it keeps to them is what is tested.
+        self.lender.call(View::Encoding(case), side, loans, |[r, g, b, a, dst]| unsafe {
+            encode(r, lens[0], g, lens[1], b, lens[2], a, lens[3], dst, before.len(), rle, width, height)
+        })
+    }
+
+    fn call_bitmap(&mut self, case: Encoding<&[u8]>, pixels: &[u8], alpha: bool, side: Side) -> (i64, Option<String>) {
+        let Encoding { width, height, rle, before, .. } = case;
+        let encoders = self.library.encoders;
+        let encode = if alpha { encoders.bitmap_alpha } else { encoders.bitmap };
+        let loans = [Loan::read("pixels", pixels), Loan::written("destination", before, &mut self.packed.got)];
+        let len = pixels.len();
+        // SAFETY: both are lent for this call. That it keeps to them is what is tested.
+        self.lender.call(View::Encoding(case), side, loans, |[pixels, dst]| unsafe {
+            encode(pixels, len, dst, before.len(), rle, width, height)
+        })
+    }
+}

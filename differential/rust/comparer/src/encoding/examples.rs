@@ -1,0 +1,88 @@
+//! Pictures that document 01 decides in its section on packing, and what it says of them.
+
+use crate::check::{Comparer, Outcome};
+use crate::encoding::OwnedEncoding;
+use crate::tally::Kind;
+
+/// A case, its answer as a library gives it, and its destination after the call.
+type Example = (&'static str, i64, &'static str);
+
+#[rustfmt::skip]
+pub const EXAMPLES: [Example; 40] = [
+    // R at 2, G at 1, B at 0, A at 3; planes R, G, B, or A, R, G, B; a raw body ends in one zero byte.
+    ("pb 1 1 0 0 01020304 EE*5", 4, "03020100EE"),
+    ("pb 1 1 0 1 01020304 EE*6", 5, "0403020100EE"),
+    ("pb 1 1 1 0 01020304 EE*7", 6, "100310021001EE"),
+    ("pb 1 1 1 1 01020304 EE*9", 8, "1004100310021001EE"),
+    ("pc 1 1 0 03 02 01 none EE*5", 4, "03020100EE"),
+    ("pc 1 1 0 03 02 01 04 EE*6", 5, "0403020100EE"),
+    ("pc 1 1 1 03 02 01 none EE*7", 6, "100310021001EE"),
+    ("pc 1 1 1 03 02 01 04 EE*9", 8, "1004100310021001EE"),
+    // Planes one behind the other, each by its own rows, with no Pad between them if RLE.
+    ("pb 2 1 0 0 0102030405060708 EE*7", 7, "03070206010500"),
+    ("pc 4 1 1 07*4 09*4 05*4 none EE*6", 6, "130713091305"),
+    ("pc 1 2 1 0A09 0A8A 0000 none EE*12", 12, "100A1001100A10FF10001000"),
+    ("pc 17 1 1 09*17 09*17 09*17 none EE*12", 12, "1F0910091F0910091F091009"),
+    // A raw body needs all its room, and changes nothing without it.
+    ("pb 1 1 0 0 01020304 EE*4", 4, "03020100"),
+    ("pb 1 1 0 0 01020304 EE*3", -12, "EEEEEE"),
+    ("pb 1 1 0 1 01020304 EE*4", -12, "EE*4"),
+    ("pb 1 1 0 0 01020304 -", -12, "-"),
+    // RLE leaves the whole segments of all planes before the one that does not fit.
+    ("pb 1 1 1 0 01020304 EE*5", -12, "10031002EE"),
+    ("pb 1 1 1 0 01020304 EE*4", -12, "10031002"),
+    ("pb 1 1 1 0 01020304 EE*3", -12, "1003EE"),
+    ("pb 1 1 1 0 01020304 EE", -12, "EE"),
+    ("pb 1 1 1 1 01020304 EE*7", -12, "100410031002EE"),
+    ("pc 17 1 1 09*17 08*17 07*17 none EE*7", -12, "1F0910091F08EE"),
+    // A source that is short is refused before anything is written, whichever it is.
+    ("pc 1 1 1 - 02 01 none EE*6", -11, "EE*6"),
+    ("pc 1 1 1 03 - 01 none EE*6", -11, "EE*6"),
+    ("pc 1 1 1 03 02 - none EE*6", -11, "EE*6"),
+    ("pc 2 1 1 0102 0304 0506 - EE*12", -11, "EE*12"),
+    ("pc 2 1 0 01 0203 0405 none EE*8", -11, "EE*8"),
+    ("pc 2 1 0 01 020304 0506 none EE*9", -11, "EE*9"),
+    ("pb 1 1 0 0 010203 EE*4", -11, "EE*4"),
+    ("pb 2 1 1 1 01020304050607 -", -11, "-"),
+    // Of a longer source the first width times height are used; bytes that make no whole pixel are not looked at.
+    ("pc 2 1 0 010203 0405 0607 none EE*8", 7, "01020405060700EE"),
+    ("pc 2 1 0 010203 0405 0607 none EE*7", 7, "01020405060700"),
+    ("pc 2 1 0 010203 0405 0607 none EE*6", -12, "EE*6"),
+    ("pc 2 1 1 010203 040506 070809 none EE*9", 9, "200102200405200708"),
+    ("pb 2 1 0 1 0102030405060708AABBCC EE*9", 9, "040803070206010500"),
+    ("pb 1 1 0 0 0102030405060708 EE*4", 4, "03020100"),
+    // 1 before 2, 2 before 11, 11 before 12.
+    ("pc 0 9000 1 - - - none -", -1, "-"),
+    ("pb 9000 0 0 1 - -", -1, "-"),
+    ("pb 9000 1 0 1 - -", -2, "-"),
+    ("pc 1 1 0 - - - - -", -11, "-"),
+];
+
+pub fn run(comparer: &mut Comparer) -> Outcome {
+    for (text, _, _) in EXAMPLES {
+        let case = OwnedEncoding::parse(text).expect("the table's own text");
+        comparer.compare_encoding(Kind::EncodingExamples, case.view())?;
+    }
+    Ok(())
+}
+
+#[cfg(test)]
+mod tests {
+    use super::EXAMPLES;
+    use crate::bytes;
+    use crate::encoding::OwnedEncoding;
+
+    /// The judges say what is written here: the Rust inside the domain, document 01's order and its first samples outside.
+    #[test]
+    fn examples_are_judged_so() {
+        for (text, answer, after) in EXAMPLES {
+            let case = OwnedEncoding::parse(text).unwrap();
+            let mut judged_after = [&[0], &case.before[..]].concat();
+            let judged = match case.refused_at_entry() {
+                Some(number) => -i64::from(number),
+                None => case.view().with_first_samples().by_rust(&mut judged_after).answer.number().unwrap(),
+            };
+            assert_eq!((judged, bytes::text(&judged_after[1..])), (answer, after.to_owned()), "{text}");
+        }
+    }
+}

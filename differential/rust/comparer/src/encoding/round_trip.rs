@@ -1,0 +1,66 @@
+//! What was packed is unpacked by the Rust: R, G and B by its picture decoder, A as the plane that comes first.
+
+use crate::encoding::{Channel, Encoding};
+use original::{Answer, Definition, Header};
+
+/// What does not come back as it went in.
+pub struct Wrong {
+    pub name: &'static str,
+    pub answer: Answer,
+    pub wanted: Vec<u8>,
+    pub got: Vec<u8>,
+}
+
+/// What is wrong with a body, if anything. The header says that there is alpha if there is: the record that document 01 has sent
+/// says false, which the decoder could not know to be wrong.
+pub fn wrong(case: Encoding<&[u8]>, body: &[u8]) -> Option<Wrong> {
+    let Encoding { width, height, rle, sources, .. } = case;
+    let [r, g, b, a] =
+        [Channel::R, Channel::G, Channel::B, Channel::A].map(|of| sources.samples(of).take(width * height));
+    let wanted: Vec<u8> = r.zip(g).zip(b).flat_map(|((r, g), b)| [r, g, b]).collect();
+    let header = Header { rle, alpha: sources.has_alpha(), definition: Definition::Argb };
+    let (mut work, mut got) = (Vec::new(), Vec::new());
+    let answer = original::decode(header, body, &mut work, &mut got, width, height);
+    if got != wanted {
+        return Some(Wrong { name: "image", answer, wanted, got });
+    }
+    if !sources.has_alpha() {
+        return None;
+    }
+    let wanted: Vec<u8> = a.collect();
+    let mut got = body.iter().copied().take(width * height).collect::<Vec<u8>>();
+    let mut answer = Answer::Done(got.len());
+    if rle {
+        got = vec![0; width * height];
+        answer = original::unpack(body, &mut got, width, height);
+    }
+    (got != wanted).then_some(Wrong { name: "alpha plane", answer, wanted, got })
+}
+
+#[cfg(test)]
+mod tests {
+    use super::wrong;
+    use crate::bytes;
+    use crate::encoding::OwnedEncoding;
+
+    /// What is named wrong of a body.
+    fn named(case: &str, body: &str) -> Option<&'static str> {
+        let case = OwnedEncoding::parse(case).unwrap();
+        wrong(case.view(), &bytes::parse(body).unwrap()).map(|wrong| wrong.name)
+    }
+
+    #[test]
+    fn right_bodies_and_wrong_ones() {
+        let [three, four] = ["pb 1 1 1 0 01020304 -", "pb 1 1 1 1 01020304 -"];
+        assert_eq!(named(three, "100310021001"), None);
+        assert_eq!(named(three, "100110021003"), Some("image"));
+        assert_eq!(named(three, "1003100210"), Some("image"));
+        assert_eq!(named(four, "1004100310021001"), None);
+        assert_eq!(named(four, "1005100310021001"), Some("alpha plane"));
+        let [three, four] = ["pc 1 1 0 03 02 01 none -", "pc 1 1 0 03 02 01 04 -"];
+        assert_eq!(named(three, "03020100"), None);
+        assert_eq!(named(three, "04030201"), Some("image"));
+        assert_eq!(named(four, "0403020100"), None);
+        assert_eq!(named(four, "0303020100"), Some("alpha plane"));
+    }
+}

@@ -1,0 +1,281 @@
+//! A picture encoder in small steps, written from document 01. A wrong one does one of them otherwise. The planes of an RLE picture
+//! it leaves to the Rust: wrong packers of planes are looked for elsewhere.
+
+use super::decoder::Lent;
+use comparer::case::MAX_SIDE;
+use comparer::encoding::check::Encoders;
+use comparer::encoding::Channel;
+
+/// What is lent to be packed.
+pub enum Given {
+    /// R, G, B, and A if there is one.
+    Channels(Vec<Lent>),
+    Pixels(Lent),
+}
+
+/// What an encoder is called with.
+pub struct Call {
+    pub given: Given,
+    /// Whether A is to be packed too.
+    pub alpha: bool,
+    pub rle: bool,
+    pub width: usize,
+    pub height: usize,
+    pub dst: Lent,
+}
+
+impl Call {
+    /// The samples of a plane, or what a word can hold.
+    pub fn full(&self) -> usize {
+        self.width.saturating_mul(self.height)
+    }
+
+    /// How many planes are packed.
+    pub fn planes(&self) -> usize {
+        3 + usize::from(self.alpha)
+    }
+
+    pub fn is_bitmap(&self) -> bool {
+        matches!(self.given, Given::Pixels(_))
+    }
+
+    /// The slices that samples are in.
+    pub fn slices(&self) -> &[Lent] {
+        match &self.given {
+            Given::Channels(slices) => slices,
+            Given::Pixels(pixels) => std::slice::from_ref(pixels),
+        }
+    }
+}
+
+pub use Channel::{A, B, G, R};
+
+/// The steps, each as document 01 has it.
+pub trait Encoder {
+    fn encode(call: &mut Call) -> i64 {
+        let refused = Self::refused(call);
+        if refused != 0 {
+            return -refused;
+        }
+        let written = if call.rle { Self::write_rle(call) } else { Self::write_raw(call) };
+        match written {
+            Ok(count) => Self::finish(call, count),
+            Err(number) => {
+                Self::after_refusal(call, number);
+                -number
+            }
+        }
+    }
+
+    /// The refusal before anything is read, or 0.
+    fn refused(call: &Call) -> i64 {
+        let tests = Self::tests(call);
+        Self::order().into_iter().find(|&at| tests[at].0).map_or(0, |at| tests[at].1)
+    }
+
+    /// The order of the tests.
+    fn order() -> [usize; 3] {
+        [0, 1, 2]
+    }
+
+    fn tests(call: &Call) -> [(bool, i64); 3] {
+        [
+            (call.width == 0 || call.height == 0, 1),
+            (call.width > Self::most_side() || call.height > Self::most_side(), 2),
+            (Self::is_short(call), 11),
+        ]
+    }
+
+    fn most_side() -> usize {
+        MAX_SIDE
+    }
+
+    fn is_short(call: &Call) -> bool {
+        Self::counts(call).into_iter().any(|count| count < Self::needed_samples(call))
+    }
+
+    fn needed_samples(call: &Call) -> usize {
+        call.full()
+    }
+
+    /// How many samples each source has.
+    fn counts(call: &Call) -> Vec<usize> {
+        match &call.given {
+            Given::Channels(slices) => slices.iter().map(|slice| slice.len).collect(),
+            Given::Pixels(pixels) => vec![Self::whole_pixels(pixels.len)],
+        }
+    }
+
+    fn whole_pixels(len: usize) -> usize {
+        len / 4
+    }
+
+    /// The planes in the order in which they are packed.
+    fn plane_order(call: &Call) -> Vec<Channel> {
+        if call.alpha {
+            vec![A, R, G, B]
+        } else {
+            vec![R, G, B]
+        }
+    }
+
+    fn stride(_call: &Call) -> usize {
+        4
+    }
+
+    /// Where a channel lies in a pixel.
+    fn place(channel: Channel) -> usize {
+        match channel {
+            R => 2,
+            G => 1,
+            B => 0,
+            A => 3,
+        }
+    }
+
+    /// How many samples of a plane are packed.
+    fn used(call: &Call, _channel: Channel) -> usize {
+        call.full()
+    }
+
+    /// A sample. It may be asked for where there is none, by a mistake.
+    fn sample(call: &Call, channel: Channel, at: usize) -> u8 {
+        let (slice, at) = match &call.given {
+            Given::Channels(slices) => (&slices[channel as usize], at),
+            Given::Pixels(pixels) => (pixels, at * Self::stride(call) + Self::place(channel)),
+        };
+        slice.bytes().get(at).copied().unwrap_or(0)
+    }
+
+    fn plane(call: &Call, channel: Channel) -> Vec<u8> {
+        (0..Self::used(call, channel)).map(|at| Self::sample(call, channel, at)).collect()
+    }
+
+    /// The bytes written, or the refusal.
+    fn write_rle(call: &mut Call) -> Result<usize, i64> {
+        let mut at = 0;
+        for channel in Self::plane_order(call) {
+            at += Self::write_plane(call, channel, at)?;
+            at = Self::next_plane(call, at);
+        }
+        Ok(at)
+    }
+
+    /// Packs a plane to this place of the destination. The answer is the bytes written.
+    fn write_plane(call: &mut Call, channel: Channel, at: usize) -> Result<usize, i64> {
+        let (plane, sides) = (Self::plane(call, channel), (call.width, call.height));
+        packed(&plane, call.dst.bytes_mut().get_mut(at..).unwrap_or(&mut []), sides)
+    }
+
+    /// Where the next plane starts, once one is written up to here.
+    fn next_plane(_call: &Call, at: usize) -> usize {
+        at
+    }
+
+    fn raw_needed(call: &Call) -> usize {
+        call.planes() * call.full() + 1
+    }
+
+    fn write_raw(call: &mut Call) -> Result<usize, i64> {
+        if call.dst.len < Self::raw_needed(call) {
+            return Err(12);
+        }
+        let body = Self::raw_body(call);
+        body.iter().enumerate().for_each(|(at, &byte)| call.dst.write(at, byte));
+        Ok(body.len())
+    }
+
+    fn raw_body(call: &Call) -> Vec<u8> {
+        let planes = Self::plane_order(call).into_iter().flat_map(|channel| Self::plane(call, channel));
+        planes.chain(Self::pad()).collect()
+    }
+
+    /// What a raw body ends in.
+    fn pad() -> Vec<u8> {
+        vec![0]
+    }
+
+    /// What a refusal by 12 does besides.
+    fn after_refusal(_call: &mut Call, _number: i64) {}
+
+    /// The answer, once all is written.
+    fn finish(_call: &mut Call, count: usize) -> i64 {
+        count as i64
+    }
+}
+
+/// What the Rust makes of a plane: the bytes written, or the number of the refusal. A panic, to which a mistake may lead, is no
+/// number that there is.
+pub fn packed(plane: &[u8], dst: &mut [u8], (width, height): (usize, usize)) -> Result<usize, i64> {
+    let answer = original::compress(plane, dst, width, height).number().unwrap_or(-99);
+    usize::try_from(answer).map_err(|_| -answer)
+}
+
+pub struct Right;
+
+impl Encoder for Right {}
+
+fn lent(at: *const u8, len: usize) -> Lent {
+    Lent { at: at.cast_mut(), len }
+}
+
+#[allow(clippy::too_many_arguments)]
+unsafe extern "C" fn channels<E: Encoder>(
+    r: *const u8,
+    r_len: usize,
+    g: *const u8,
+    g_len: usize,
+    b: *const u8,
+    b_len: usize,
+    dst: *mut u8,
+    dst_len: usize,
+    rle: bool,
+    width: usize,
+    height: usize,
+) -> i64 {
+    let given = Given::Channels(vec![lent(r, r_len), lent(g, g_len), lent(b, b_len)]);
+    E::encode(&mut Call { given, alpha: false, rle, width, height, dst: lent(dst, dst_len) })
+}
+
+#[allow(clippy::too_many_arguments)]
+unsafe extern "C" fn channels_alpha<E: Encoder>(
+    r: *const u8,
+    r_len: usize,
+    g: *const u8,
+    g_len: usize,
+    b: *const u8,
+    b_len: usize,
+    a: *const u8,
+    a_len: usize,
+    dst: *mut u8,
+    dst_len: usize,
+    rle: bool,
+    width: usize,
+    height: usize,
+) -> i64 {
+    let given = Given::Channels(vec![lent(r, r_len), lent(g, g_len), lent(b, b_len), lent(a, a_len)]);
+    E::encode(&mut Call { given, alpha: true, rle, width, height, dst: lent(dst, dst_len) })
+}
+
+unsafe extern "C" fn bitmap<E: Encoder, const ALPHA: bool>(
+    src: *const u8,
+    src_len: usize,
+    dst: *mut u8,
+    dst_len: usize,
+    rle: bool,
+    width: usize,
+    height: usize,
+) -> i64 {
+    let given = Given::Pixels(lent(src, src_len));
+    E::encode(&mut Call { given, alpha: ALPHA, rle, width, height, dst: lent(dst, dst_len) })
+}
+
+/// The functions of an encoder as a library has them.
+pub const fn encoders<E: Encoder>() -> Encoders {
+    Encoders {
+        channels: channels::<E>,
+        channels_alpha: channels_alpha::<E>,
+        bitmap: bitmap::<E, false>,
+        bitmap_alpha: bitmap::<E, true>,
+    }
+}

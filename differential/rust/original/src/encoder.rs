@@ -1,0 +1,94 @@
+//! The picture encoder. Its destination begins with the header's byte, which document 01 leaves out.
+
+use crate::rdp6::bitmap_stream::encoder::{BgrAChannels, BitmapEncodeError, BitmapStreamEncoder};
+use crate::{panics, Answer, Header};
+
+/// What the Rust does with a picture that it is to pack.
+#[derive(Clone, Debug, PartialEq, Eq)]
+pub struct Encoded {
+    /// The bytes written behind the header's byte, or why not all were.
+    pub answer: Answer,
+    /// The header as it was handed over for writing, before any sample was looked at; none if its byte had no room.
+    pub header: Option<Header>,
+}
+
+/// Packs, and tells what came of it. The destination's first byte is not looked at before the call.
+fn encoded(dst: &mut [u8], encode: impl FnOnce(&mut [u8]) -> Result<usize, BitmapEncodeError>) -> Encoded {
+    // No header's byte: whether one is written can be told.
+    if let Some(first) = dst.first_mut() {
+        *first = 0xEE;
+    }
+    let answer = match panics::caught(|| encode(dst)) {
+        Ok(Ok(count)) => Answer::Done(count - 1),
+        Ok(Err(BitmapEncodeError::Rle(error))) => Answer::of_packing(error),
+        Ok(Err(BitmapEncodeError::Encode(_))) => Answer::Refused(12),
+        Err(place) => Answer::Panic(place),
+    };
+    Encoded { answer, header: dst.first().copied().and_then(Header::of_byte) }
+}
+
+/// `encode_channels_stream` of R, G and B, or with alpha `encode_channels_stream_alpha`. The destination may have been written to
+/// after an error or a panic too.
+pub fn encode_channels(
+    colours: [&[u8]; 3],
+    alpha: Option<&[u8]>,
+    dst: &mut [u8],
+    rle: bool,
+    width: usize,
+    height: usize,
+) -> Encoded {
+    let mut encoder = BitmapStreamEncoder::new(width, height);
+    let [r, g, b] = colours.map(|samples| samples.iter().copied());
+    encoded(dst, |dst| match alpha {
+        None => encoder.encode_channels_stream((r, g, b), dst, rle),
+        Some(a) => encoder.encode_channels_stream_alpha((r, g, b, a.iter().copied()), dst, rle),
+    })
+}
+
+/// `encode_bitmap` of pixels of B, G, R and A, or with alpha `encode_bitmap_alpha`. The destination may have been written to after
+/// an error or a panic too.
+pub fn encode_bitmap(pixels: &[u8], alpha: bool, dst: &mut [u8], rle: bool, width: usize, height: usize) -> Encoded {
+    let mut encoder = BitmapStreamEncoder::new(width, height);
+    encoded(dst, |dst| match alpha {
+        false => encoder.encode_bitmap::<BgrAChannels>(pixels, dst, rle),
+        true => encoder.encode_bitmap_alpha::<BgrAChannels>(pixels, dst, rle),
+    })
+}
+
+#[cfg(test)]
+mod tests {
+    use super::{encode_bitmap, encode_channels, Encoded};
+    use crate::{Answer, Definition, Header};
+
+    fn header(rle: bool) -> Option<Header> {
+        Some(Header { rle, alpha: false, definition: Definition::Argb })
+    }
+
+    #[test]
+    fn a_pixel_raw_and_rle_with_alpha_and_without() {
+        let mut dst = [0; 10];
+        let packed = |count, rle| Encoded { answer: Answer::Done(count), header: header(rle) };
+        assert_eq!(encode_bitmap(&[1, 2, 3, 4], false, &mut dst, false, 1, 1), packed(4, false));
+        assert_eq!(dst[1..5], [3, 2, 1, 0]);
+        assert_eq!(encode_bitmap(&[1, 2, 3, 4], true, &mut dst, true, 1, 1), packed(8, true));
+        assert_eq!(dst[1..9], [0x10, 4, 0x10, 3, 0x10, 2, 0x10, 1]);
+        assert_eq!(encode_channels([&[3], &[2], &[1]], None, &mut dst, true, 1, 1), packed(6, true));
+        assert_eq!(dst[1..7], [0x10, 3, 0x10, 2, 0x10, 1]);
+        assert_eq!(encode_channels([&[3], &[2], &[1]], Some(&[4]), &mut dst, false, 1, 1), packed(5, false));
+        assert_eq!(dst[1..6], [4, 3, 2, 1, 0]);
+    }
+
+    #[test]
+    fn errors_and_a_panic_are_answers_with_the_header_written() {
+        let pack = |colours: [&[u8]; 3], dst: &mut [u8], rle| encode_channels(colours, None, dst, rle, 1, 1);
+        let refused = |number, rle| Encoded { answer: Answer::Refused(number), header: header(rle) };
+        assert_eq!(pack([&[3], &[2], &[1]], &mut [0; 4], false), refused(12, false));
+        assert_eq!(pack([&[3], &[2], &[1]], &mut [0; 4], true), refused(12, true));
+        assert_eq!(pack([&[3], &[], &[1]], &mut [0; 9], true), refused(11, true));
+        let panicked = pack([&[3, 3], &[2], &[1]], &mut [0; 5], false);
+        assert!(matches!(panicked.answer, Answer::Panic(place) if place.starts_with("encoder.rs:")));
+        assert_eq!(panicked.header, header(false));
+        let without_room = Encoded { answer: Answer::Refused(12), header: None };
+        assert_eq!(pack([&[3], &[2], &[1]], &mut [], true), without_room);
+    }
+}

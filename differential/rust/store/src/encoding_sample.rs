@@ -1,0 +1,142 @@
+//! Which cases of packing pictures are stored: small pictures of all forms, with every room and with those around segments' ends.
+
+use crate::encodings::{Encodings, Entry};
+use crate::{BEFORE, LONGEST};
+use comparer::encoding::examples::EXAMPLES;
+use comparer::encoding::given::{form, given, ALPHAS, FORMS};
+use comparer::encoding::{OwnedEncoding, Sources};
+use comparer::picture::Planes;
+use comparer::planes::{segment_starts, Look, LOOKS, WIDTHS};
+use comparer::Rng;
+
+/// Every part in turn, each with numbers of its own, so that a change in one leaves the others as they are.
+pub fn keep_all(stored: &mut Encodings) {
+    examples(stored);
+    every_room(stored, &mut Rng::new(1));
+    small_sides(stored, &mut Rng::new(2));
+    segment_ends(stored, &mut Rng::new(3));
+    every_look(stored, &mut Rng::new(4));
+    longer_sources(stored, &mut Rng::new(5));
+    wide_and_tall(stored);
+}
+
+/// Small inputs that document 01 decides, as far as they are of this entry and inside the domain.
+fn examples(stored: &mut Encodings) {
+    let cases = EXAMPLES.iter().map(|example| OwnedEncoding::parse(example.0).expect("the table's own text"));
+    for mut case in cases.filter(OwnedEncoding::is_inside) {
+        let entry = if matches!(case.sources, Sources::Pixels { .. }) { Entry::Bitmap } else { Entry::Channels };
+        if entry == stored.entry {
+            case.before.fill(BEFORE);
+            stored.keep_case(&case);
+        }
+    }
+}
+
+/// RLE and raw, three planes and four.
+fn forms() -> impl Iterator<Item = (bool, bool)> {
+    FORMS.into_iter().flat_map(|rle| ALPHAS.map(|alpha| (rle, alpha)))
+}
+
+/// Pictures with every room from none to one too many.
+fn every_room(stored: &mut Encodings, rng: &mut Rng) {
+    for (sides, look) in [((1, 1), Look::Noise), ((2, 2), Look::FewValues), ((3, 1), Look::Noise), ((4, 1), Look::Runs)]
+    {
+        for (rle, alpha) in forms() {
+            let sources = stored.sources(&Planes::with_looks(rng, form(alpha), sides, &[look]));
+            for room in 0..=given(rle, sides, sources.view()).packing().len() + 1 {
+                stored.keep(rle, sides, &sources, room);
+            }
+        }
+    }
+}
+
+/// With room for the packing, or for a little more, and with room for less: for RLE around the end of a segment.
+fn keep_with_and_without_room(
+    stored: &mut Encodings,
+    rng: &mut Rng,
+    rle: bool,
+    sides: (usize, usize),
+    sources: &Sources<Vec<u8>>,
+) {
+    let packing = given(rle, sides, sources.view()).packing();
+    stored.keep(rle, sides, sources, packing.len() + rng.pick(&[0, 0, 0, 1, 9]));
+    let less = if rle { *rng.pick(&segment_starts(&packing)) + rng.below(3) } else { packing.len() - rng.below(2) };
+    stored.keep(rle, sides, sources, less.saturating_sub(1));
+}
+
+/// All sides of 1 to 6.
+fn small_sides(stored: &mut Encodings, rng: &mut Rng) {
+    for sides in (1..=6).flat_map(|width| (1..=6).map(move |height| (width, height))) {
+        for (rle, alpha) in forms() {
+            let sources = stored.sources(&Planes::random(rng, form(alpha), sides.0, sides.1));
+            keep_with_and_without_room(stored, rng, rle, sides, &sources);
+        }
+    }
+}
+
+/// Destinations around the end of each segment of each plane.
+fn segment_ends(stored: &mut Encodings, rng: &mut Rng) {
+    for sides in [(17, 1), (20, 2), (34, 1)] {
+        for alpha in ALPHAS {
+            let look = *rng.pick(&[Look::Runs, Look::RowsAlike]);
+            let sources = stored.sources(&Planes::with_looks(rng, form(alpha), sides, &[look]));
+            let packing = given(true, sides, sources.view()).packing();
+            for end in segment_starts(&packing).into_iter().chain([packing.len()]) {
+                for room in [end.saturating_sub(1), end, end + 1] {
+                    stored.keep(true, sides, &sources, room);
+                }
+            }
+        }
+    }
+}
+
+/// Every look at all the widths, as far as it takes few characters.
+fn every_look(stored: &mut Encodings, rng: &mut Rng) {
+    for width in WIDTHS {
+        for look in LOOKS {
+            let (rle, alpha) = (!rng.once_in(3), rng.once_in(2));
+            let sides = (width, rng.within(1, if width > 16 { 2 } else { 3 }));
+            let sources = stored.sources(&Planes::with_looks(rng, form(alpha), sides, &[look]));
+            keep_with_and_without_room(stored, rng, rle, sides, &sources);
+        }
+    }
+}
+
+/// More samples than the picture has, which RLE leaves; and bytes behind pixels that make no whole one, which raw packing leaves
+/// too.
+fn longer_sources(stored: &mut Encodings, rng: &mut Rng) {
+    for _ in 0..30 {
+        for (rle, alpha) in forms() {
+            let sides = (rng.within(1, 9), rng.within(1, 3));
+            let sources = stored.sources(&Planes::random(rng, form(alpha), sides.0, sides.1));
+            let longer = sources.view().map(|slice, stride| {
+                let more = if rle { rng.below(3 * stride + 4) } else { rng.below(stride) };
+                [slice, &rng.bytes(more)].concat()
+            });
+            keep_with_and_without_room(stored, rng, rle, sides, &longer);
+        }
+    }
+}
+
+/// Flat pictures as wide and as high as the longest source allows.
+fn wide_and_tall(stored: &mut Encodings) {
+    let side = if stored.entry == Entry::Channels { 8192 } else { 4096 };
+    for (sides, alpha) in [(side, 1), (1, side), (side - 1, 1)].into_iter().zip([false, true, true]) {
+        let plane = vec![9; sides.0 * sides.1];
+        let colours = [plane.clone(), plane.clone(), plane.clone()];
+        let sources = stored.sources(&Planes { colours, alpha: Some(plane) });
+        let sources = if alpha { sources } else { without_alpha(sources) };
+        let len = given(true, sides, sources.view()).packing().len();
+        for room in [len + 1, len, len - 1, len / 2, 100, 1, 0].into_iter().filter(|&room| room <= LONGEST) {
+            stored.keep(true, sides, &sources, room);
+        }
+    }
+}
+
+/// The same picture in three planes. Pixels keep their A, so that a line stays short.
+fn without_alpha(sources: Sources<Vec<u8>>) -> Sources<Vec<u8>> {
+    match sources {
+        Sources::Channels { colours, .. } => Sources::Channels { colours, alpha: None },
+        Sources::Pixels { pixels, .. } => Sources::Pixels { pixels, alpha: false },
+    }
+}
