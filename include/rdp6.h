@@ -120,6 +120,48 @@ size_t rdp6_work_size(bool rle, uint8_t definition, bool chroma_subsampling, siz
 /* The least image_len of a picture, 3 * width * height. Answers 0 for sides that are refused. */
 size_t rdp6_image_size(size_t width, size_t height);
 
+/*
+ * Packs a picture (MS-RDPEGDI 2.2.2.5.1) from its R, G and B into the first bytes of dst, and answers how many were written. They are its
+ * body, which follows a header byte of the caller's. The bytes of dst behind it are untouched.
+ *
+ *   r, g, b   a channel each: one byte a pixel, row by row from the top. What follows the first width * height is not read
+ *   rle       true: R, G and B go out one after the other, each as rdp6_compress_8bpp_plane packs it. A plane has at most two bytes a
+ *             sample, so that a dst of 6 * width * height bytes never gets refusal 12
+ *             false: their samples go out as they are, then one zero byte. dst_len is 3 * width * height + 1 at least
+ *
+ * The header record that goes with the body is: RLE as asked, ARGB, no alpha.
+ *
+ * Refusals, tested in this order:
+ *    1  width or height is 0                               }
+ *    2  width or height is over 8192                       }  dst is unchanged
+ *   11  r_len, g_len or b_len is under width * height      }
+ *   12  RLE: the next segment does not fit into dst: the segments before it are written whole, the rest of dst is untouched
+ *       raw: the body does not fit into dst, which is unchanged
+ */
+int64_t rdp6_encode_channels_stream(const uint8_t *r, size_t r_len, const uint8_t *g, size_t g_len, const uint8_t *b, size_t b_len,
+                                    uint8_t *dst, size_t dst_len, bool rle, size_t width, size_t height);
+
+/*
+ * The same with alpha, a channel like the others. It goes out first: A, R, G, B. An RLE body then has at most 8 * width * height bytes,
+ * a raw one 4 * width * height + 1, and refusal 11 is given for a_len too.
+ *
+ * The header record is the same as without alpha: IronRDP's encoder sends no alpha flag with these four planes, although MS-RDPEGDI asks
+ * for it. To unpack such a body with rdp6_decode, pass alpha as true.
+ */
+int64_t rdp6_encode_channels_stream_alpha(const uint8_t *r, size_t r_len, const uint8_t *g, size_t g_len, const uint8_t *b, size_t b_len,
+                                          const uint8_t *a, size_t a_len, uint8_t *dst, size_t dst_len, bool rle, size_t width,
+                                          size_t height);
+
+/*
+ * The same as rdp6_encode_channels_stream, from pixels: src has four bytes a pixel, B, G, R and A, row by row from the top. A is not
+ * packed. What follows the first width * height pixels is not read. Refusal 11 is given if src has fewer whole pixels, that is if
+ * src_len / 4 is under width * height.
+ */
+int64_t rdp6_encode_bitmap(const uint8_t *src, size_t src_len, uint8_t *dst, size_t dst_len, bool rle, size_t width, size_t height);
+
+/* The same as rdp6_encode_channels_stream_alpha, from pixels: A is packed too. */
+int64_t rdp6_encode_bitmap_alpha(const uint8_t *src, size_t src_len, uint8_t *dst, size_t dst_len, bool rle, size_t width, size_t height);
+
 #ifdef __cplusplus
 }
 #endif

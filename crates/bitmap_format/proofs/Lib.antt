@@ -9,3 +9,4 @@ pub mod UnpackPlanes
 pub mod Tested
 pub mod Picture
 pub mod PackPicture
+pub mod PackRoom

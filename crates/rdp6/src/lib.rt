@@ -2,7 +2,7 @@
 // the entry of the same name and turns its answer into one number; nothing is kept between calls.
 ghost use mathlib.Core.Path.{_≡_};
 ghost use mathlib.Core.Bool.{false};
-ghost use Prim.Native.Nat.{ℕ, _≤_};
+ghost use Prim.Native.Nat.{ℕ, _≤_, _<_};
 ghost use lib.ListN.{length};
 ghost use Rattle.rle_format.specs.Answer.{refused, number, told, toldPacked};
 ghost use Rattle.rle_format.specs.Sides.{withinSides};
@@ -11,11 +11,14 @@ ghost use Rattle.rle_format.specs.Unpack.{unpackPlane};
 ghost use Rattle.rle_format.specs.Pack.{packPlane};
 ghost use Rattle.bitmap_format.specs.Sizes.{workSize, imageSize};
 ghost use Rattle.bitmap_format.specs.Picture.{unpackPicture, toldDecoded};
-ghost use Rattle.rdp6.specs.Number.{cNumber};
+ghost use Rattle.pixel_format.specs.Channel.{bgrA};
+ghost use Rattle.bitmap_format.specs.PackPicture.{threePlanes, fourPlanes, pixelPlanes, pixelPlanesAlpha, packPicture, toldEncoded};
+ghost use Rattle.rdp6.specs.Number.{cNumber, answerOf};
 ghost use Rattle.rdp6.specs.Header.{cDefinition, cHeader};
 use bitmap_format::BitmapStreamHeader;
 use bitmap_format::ColorPlaneDefinition;
 use bitmap_format::Decoded;
+use bitmap_format::Encoded;
 use rle_format::Packed;
 use rle_format::Refusal;
 use rle_format::Unpacked;
@@ -57,6 +60,17 @@ fn decoded_number(answer: Decoded) -> i64
     match answer {
         Decoded::Written(written) => written as i64,
         Decoded::Refused(reason) => refusal_number(reason),
+    }
+}
+
+// The number that an answer of packing a picture is. A count is within the destination, and no slice has 2^63 bytes.
+fn encoded_number(answer: Encoded) -> i64
+    requires { ⌜ ((n : ℕ) (h : BitmapStreamHeader) → answer ≡ Encoded.Written n h → n < 9223372036854775808) ⌝ }
+    ensures { λ r. ⌜ r ≡ cNumber (answerOf (toldEncoded answer)) ⌝ }
+{
+    match answer {
+        Encoded::Written { bytes, header: _ } => bytes as i64,
+        Encoded::Refused(reason) => refusal_number(reason),
     }
 }
 
@@ -162,4 +176,69 @@ pub extern "C" fn rdp6_image_size(width: usize, height: usize) -> usize
     ensures { λ r. ⌜ r ≡ withinSides (λ (_ : ℕ). 0) width height (imageSize width height) ⌝ }
 {
     bitmap_format::image_size(width, height)
+}
+
+#[no_mangle]
+pub extern "C" fn rdp6_encode_channels_stream(
+    r: &[u8],
+    g: &[u8],
+    b: &[u8],
+    dst: &mut [u8],
+    rle: bool,
+    width: usize,
+    height: usize,
+) -> i64
+    ensures answer { λ n. ⌜ n ≡ cNumber (packPicture rle width height (length (now (dst .entry))) (threePlanes (now (r .entry)) (now (g .entry)) (now (b .entry))) .answer) ⌝ }
+    ensures slice { λ _. ⌜ now (dst .exit) ≡ over (now (dst .entry)) (packPicture rle width height (length (now (dst .entry))) (threePlanes (now (r .entry)) (now (g .entry)) (now (b .entry))) .written) ⌝ }
+{
+    let answer = bitmap_encoder::encode_channels_stream(r, g, b, dst, rle, width, height);
+    encoded_number(answer)
+}
+
+#[no_mangle]
+pub extern "C" fn rdp6_encode_channels_stream_alpha(
+    r: &[u8],
+    g: &[u8],
+    b: &[u8],
+    a: &[u8],
+    dst: &mut [u8],
+    rle: bool,
+    width: usize,
+    height: usize,
+) -> i64
+    ensures answer { λ n. ⌜ n ≡ cNumber (packPicture rle width height (length (now (dst .entry))) (fourPlanes (now (r .entry)) (now (g .entry)) (now (b .entry)) (now (a .entry))) .answer) ⌝ }
+    ensures slice { λ _. ⌜ now (dst .exit) ≡ over (now (dst .entry)) (packPicture rle width height (length (now (dst .entry))) (fourPlanes (now (r .entry)) (now (g .entry)) (now (b .entry)) (now (a .entry))) .written) ⌝ }
+{
+    let answer = bitmap_encoder::encode_channels_stream_alpha(r, g, b, a, dst, rle, width, height);
+    encoded_number(answer)
+}
+
+#[no_mangle]
+pub extern "C" fn rdp6_encode_bitmap(
+    src: &[u8],
+    dst: &mut [u8],
+    rle: bool,
+    width: usize,
+    height: usize,
+) -> i64
+    ensures answer { λ n. ⌜ n ≡ cNumber (packPicture rle width height (length (now (dst .entry))) (pixelPlanes bgrA (now (src .entry))) .answer) ⌝ }
+    ensures slice { λ _. ⌜ now (dst .exit) ≡ over (now (dst .entry)) (packPicture rle width height (length (now (dst .entry))) (pixelPlanes bgrA (now (src .entry))) .written) ⌝ }
+{
+    let answer = bitmap_encoder::encode_bitmap(src, dst, rle, width, height);
+    encoded_number(answer)
+}
+
+#[no_mangle]
+pub extern "C" fn rdp6_encode_bitmap_alpha(
+    src: &[u8],
+    dst: &mut [u8],
+    rle: bool,
+    width: usize,
+    height: usize,
+) -> i64
+    ensures answer { λ n. ⌜ n ≡ cNumber (packPicture rle width height (length (now (dst .entry))) (pixelPlanesAlpha bgrA (now (src .entry))) .answer) ⌝ }
+    ensures slice { λ _. ⌜ now (dst .exit) ≡ over (now (dst .entry)) (packPicture rle width height (length (now (dst .entry))) (pixelPlanesAlpha bgrA (now (src .entry))) .written) ⌝ }
+{
+    let answer = bitmap_encoder::encode_bitmap_alpha(src, dst, rle, width, height);
+    encoded_number(answer)
 }

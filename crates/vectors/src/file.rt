@@ -1,4 +1,6 @@
 // A data file: loaded whole, and replayed line by line.
+use crate::encode;
+use crate::encode::Source;
 use crate::picture;
 use crate::plane;
 use crate::plane::Entry;
@@ -13,6 +15,7 @@ ghost use lib.ListN.{length};
 pub(crate) enum Kind {
     Plane(Entry),
     Picture,
+    Encode(Source),
 }
 
 // The largest file: 1 MiB. What is loaded has room for one byte more, which only a larger file fills.
@@ -86,5 +89,6 @@ fn replay_line(kind: Kind, line: &[u8]) -> Outcome {
     match kind {
         Kind::Plane(entry) => plane::replay(entry, line),
         Kind::Picture => picture::replay(line),
+        Kind::Encode(source) => encode::replay(source, line),
     }
 }

@@ -1,5 +1,6 @@
 // Replays the stored cases of data/ through the public entries and prints, for each file, how many came out as stored.
 // An entry that answers otherwise, or a data file that is damaged, changes what is printed.
+mod encode;
 mod file;
 mod part;
 mod picture;
@@ -7,6 +8,7 @@ mod plane;
 mod read;
 mod report;
 
+use encode::Source;
 use file::Kind;
 use plane::Entry;
 
@@ -21,4 +23,10 @@ fn main() {
     file::replay(Kind::Picture, b"examples-picture.txt");
     file::replay(Kind::Picture, b"refusals-picture.txt");
     file::replay(Kind::Picture, b"picture-unpack.txt");
+    file::replay(Kind::Encode(Source::Channels), b"examples-channels.txt");
+    file::replay(Kind::Encode(Source::Pixels), b"examples-bitmap.txt");
+    file::replay(Kind::Encode(Source::Channels), b"refusals-channels.txt");
+    file::replay(Kind::Encode(Source::Pixels), b"refusals-bitmap.txt");
+    file::replay(Kind::Encode(Source::Channels), b"channels-pack.txt");
+    file::replay(Kind::Encode(Source::Pixels), b"bitmap-pack.txt");
 }

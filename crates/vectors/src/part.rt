@@ -4,8 +4,8 @@ ghost use mathlib.Core.Path.{_≡_};
 ghost use Prim.Native.Nat.{_+_, _≤_};
 ghost use lib.ListN.{length};
 
-// The most bytes of a part: an image of the widest row has 24,576.
-pub(crate) const MOST: usize = 25_000;
+// The most bytes of a part: the pixels of the widest row have 32,768.
+pub(crate) const MOST: usize = 33_000;
 
 // Bytes of no meaning before a part and behind it.
 pub(crate) const MARGIN: usize = 16;
@@ -23,7 +23,7 @@ pub(crate) struct Seen {
 
 // Room for the most bytes, with the margins. The length is all that lending a part of it needs.
 pub(crate) fn surrounded() -> [u8; MOST + MARGIN * 2]
-    ensures { λ r. ⌜ 25032 ≡ length r ⌝ }
+    ensures { λ r. ⌜ 33032 ≡ length r ⌝ }
 {
     [AROUND; MOST + MARGIN * 2]
 }

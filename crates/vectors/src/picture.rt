@@ -11,7 +11,7 @@ use crate::part::Seen;
 use crate::plane;
 use crate::read;
 use crate::read::Bytes;
-use crate::read::Number;
+use crate::read::NUMBERS;
 use crate::read::Signed;
 use crate::report;
 use crate::report::Answer;
@@ -40,8 +40,6 @@ const SUBSAMPLED: usize = 6;
 const WORK: usize = 7;
 
 const IMAGE: usize = 8;
-
-const NUMBERS: usize = 9;
 
 // The numbers of a case, work and image being the lengths of these slices, and the place of the body.
 struct Case {
@@ -95,7 +93,7 @@ fn replay_in(
     work: &mut [u8],
     image: &mut [u8],
 ) -> Outcome
-    requires { ⌜ (25032 ≤ length (now work)) × (25032 ≤ length (now image)) ⌝ }
+    requires { ⌜ (33032 ≤ length (now work)) × (33032 ≤ length (now image)) ⌝ }
 {
     if MOST < case.work {
         return Outcome::Malformed;
@@ -121,7 +119,7 @@ fn replay_in(
 // Reads the numbers.
 fn read_head(line: &[u8]) -> Head {
     let mut numbers = [0usize; NUMBERS];
-    let at = read_numbers(line, &mut numbers);
+    let at = read::next_numbers(line, 0, NUMBERS, &mut numbers);
     let Signed::Value { minus, value, next } = read::next_signed(line, at) else {
         return Head::Malformed;
     };
@@ -140,22 +138,6 @@ fn read_head(line: &[u8]) -> Head {
         },
         next,
     })
-}
-
-// Reads the numbers before the answer, and answers the place behind them. Behind malformed ones it is the line's end, where
-// nothing more is read.
-fn read_numbers(line: &[u8], numbers: &mut [usize; NUMBERS]) -> usize {
-    let mut at = 0;
-    let mut i = 0;
-    while i < NUMBERS {
-        let Number::Value { value, next } = read::next_number(line, at) else {
-            return line.len();
-        };
-        numbers[i] = value;
-        at = next;
-        i += 1;
-    }
-    at
 }
 
 // The header that the numbers tell.
@@ -185,7 +167,7 @@ fn header_of(numbers: [usize; NUMBERS]) -> Header {
 }
 
 // Whether each of four numbers is 0 or 1.
-fn are_flags(a: usize, b: usize, c: usize, d: usize) -> bool {
+pub(crate) fn are_flags(a: usize, b: usize, c: usize, d: usize) -> bool {
     a < 2 && b < 2 && c < 2 && d < 2
 }
 
@@ -237,7 +219,7 @@ fn compared(case: Case, got: Answer, line: &[u8], at: usize, work: &[u8], image:
     let written = in_work.written && seen.written;
     let untouched = in_work.untouched && seen.untouched;
     let expected = case.answer;
-    report::compared(expected, got, written, untouched)
+    report::compared(expected, got, true, written, untouched)
 }
 
 // Looks at the part of size bytes, which should hold what the line says at `at`.

@@ -145,7 +145,7 @@ fn run(case: Case, given: &[u8], dst: &mut [u8], after: &[u8]) -> Outcome
     let answer = called(case, given, &mut dst[MARGIN..MARGIN + after.len()]);
     let seen = part::look_at(dst, after);
     let expected = case.answer;
-    report::compared(expected, answer, seen.written, seen.untouched)
+    report::compared(expected, answer, true, seen.written, seen.untouched)
 }
 
 // Calls what the case is for.

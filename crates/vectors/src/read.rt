@@ -6,6 +6,9 @@ ghost use Prim.Native.Nat.{_≤_, _<_};
 ghost use lib.ListN.{length};
 ghost use Rattle.vectors.specs.Counts.{countOf, expandedTo};
 
+// So many numbers stand in a row at most.
+pub(crate) const NUMBERS: usize = 9;
+
 // A decimal number.
 pub(crate) enum Number {
     Value { value: usize, next: usize },
@@ -73,6 +76,29 @@ pub(crate) fn next_number(line: &[u8], at: usize) -> Number {
         value,
         next: end + 1,
     }
+}
+
+// Reads count numbers from `at` on, and answers the place behind them. Behind malformed ones it is the line's end, where
+// nothing more is read.
+pub(crate) fn next_numbers(
+    line: &[u8],
+    at: usize,
+    count: usize,
+    numbers: &mut [usize; NUMBERS],
+) -> usize
+    requires { ⌜ count ≤ 9 ⌝ }
+{
+    let mut place = at;
+    let mut i = 0;
+    while i < count {
+        let Number::Value { value, next } = next_number(line, place) else {
+            return line.len();
+        };
+        numbers[i] = value;
+        place = next;
+        i += 1;
+    }
+    place
 }
 
 // The decimal number at `at`, with its sign.

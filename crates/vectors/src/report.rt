@@ -11,10 +11,12 @@ pub(crate) struct Answer {
 // What replaying a line gave.
 pub(crate) enum Outcome {
     Equal,
-    // The two answers; whether the destination holds what it should; whether the bytes around it are untouched.
+    // The two answers; whether a header record that is handed back is the right one; whether the destination holds what it
+    // should; whether the bytes around it are untouched.
     Different {
         expected: Answer,
         got: Answer,
+        sent: bool,
         written: bool,
         untouched: bool,
     },
@@ -30,13 +32,21 @@ pub(crate) struct Tally {
 }
 
 // The outcome of a case that was run.
-pub(crate) fn compared(expected: Answer, got: Answer, written: bool, untouched: bool) -> Outcome {
-    if got.refused == expected.refused && got.number == expected.number && written && untouched {
+pub(crate) fn compared(
+    expected: Answer,
+    got: Answer,
+    sent: bool,
+    written: bool,
+    untouched: bool,
+) -> Outcome {
+    let same = got.refused == expected.refused && got.number == expected.number;
+    if same && sent && written && untouched {
         return Outcome::Equal;
     }
     Outcome::Different {
         expected,
         got,
+        sent,
         written,
         untouched,
     }
@@ -56,6 +66,7 @@ pub(crate) fn counted(tally: Tally, outcome: Outcome) -> Tally
         Outcome::Different {
             expected: _,
             got: _,
+            sent: _,
             written: _,
             untouched: _,
         } => Tally {
@@ -104,11 +115,12 @@ pub(crate) fn print_outcome(path: &[u8], line: usize, outcome: Outcome) {
         Outcome::Different {
             expected,
             got,
+            sent,
             written,
             untouched,
         } => {
             print_place(path, line);
-            print_difference(expected, got, written, untouched);
+            print_difference(expected, got, sent, written, untouched);
         }
     }
 }
@@ -120,11 +132,14 @@ fn print_place(path: &[u8], line: usize) {
     print(b": ");
 }
 
-fn print_difference(expected: Answer, got: Answer, written: bool, untouched: bool) {
+fn print_difference(expected: Answer, got: Answer, sent: bool, written: bool, untouched: bool) {
     print(b"expected ");
     print_answer(expected);
     print(b", got ");
     print_answer(got);
+    if !sent {
+        print(b"; the header record differs");
+    }
     if !written {
         print(b"; the destination differs");
     }

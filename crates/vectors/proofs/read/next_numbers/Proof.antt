@@ -1,14 +1,14 @@
--- `read_numbers` is safe and ends: there is a place for each number. Assumes nothing.
+-- `next_numbers` is safe and ends: there is a place for each number. Assumes nothing.
 use Prim.Native.Nat.{_≤_, _-_}
 use borrow.Author.Needs.{needs}
-use Rattle.vectors.proofs.picture.read_numbers.Statement.{statement}
-use Rattle.vectors.proofs.picture.read_numbers.Tie as tie
+use Rattle.vectors.proofs.read.next_numbers.Statement.{statement}
+use Rattle.vectors.proofs.read.next_numbers.Tie as tie
 
 abbrev Inv-loop : tie.InvT-loop
-Inv-loop line numbers₀ at₀ i₀ numbers at i = i ≤ 9
+Inv-loop line at count numbers₀ place₀ i₀ numbers place i = i ≤ count
 
 abbrev μ-loop : tie.MeasureT-loop
-μ-loop line numbers₀ at₀ i₀ numbers at i = 9 - i
+μ-loop line at count numbers₀ place₀ i₀ numbers place i = count - i
 
 loop-holds : tie.Need-loop-holds Inv-loop μ-loop
 loop-holds c = search needs
@@ -43,8 +43,8 @@ loop-again c = search needs
 returns-2 : tie.Need-returns-2 Inv-loop μ-loop
 returns-2 c = search needs
 
-pub read-numbers-spec : {M : Type 1} → statement M
-read-numbers-spec =
+pub next-numbers-spec : {M : Type 1} → statement M
+next-numbers-spec =
     tie.close
     (tie.spec
     Inv-loop

@@ -1,0 +1,47 @@
+-- `encoded_number`: a count as it is, a refusal below 0. Assumes nothing.
+use mathlib.Core.Path.{sym, ap, _∙_}
+use mir.Facts.{toZ-ofZ, toZ-pos}
+use mir.Val.{SFits}
+use mir.Syntax.{w64}
+use native.Mathlib.Omega.{arith}
+use Rattle.rle_format.specs.Answer.{number}
+use Rattle.rle_format.proofs.Answer.{numbers-few}
+use Rattle.bitmap_format.specs.declared.Encoded.{Encoded}
+use Rattle.bitmap_format.specs.PackPicture.{toldEncoded}
+use Rattle.rdp6.specs.Number.{cNumber, answerOf}
+use Rattle.rdp6.proofs.Numbers.{count-fits, refusal-fits}
+use borrow.Author.Needs.{needs}
+use Rattle.rdp6.proofs.encoded_number.Statement.{statement}
+use Rattle.rdp6.proofs.encoded_number.Tie as tie
+
+enum-known-answer : tie.Need-enum-known-answer
+enum-known-answer c = search needs
+
+cast-result : tie.Need-cast-result
+cast-result c = count-fits _ (omega (arith, c .before .before .before .pre _ _ (c .before .answer .given .1)))
+
+enum-known-answer-2 : tie.Need-enum-known-answer-2
+enum-known-answer-2 c = search needs
+
+refusal-number-requires : tie.Need-refusal-number-requires
+refusal-number-requires c κs = search needs
+
+returns : tie.Need-returns
+returns c = toZ-pos w64 (omega (arith, c .before .before .before .pre _ _ (c .before .answer .given .1))) ∙ sym (ap (λ (a : Encoded). cNumber (answerOf (toldEncoded a))) (c .before .answer .given .1))
+
+returns-2 : tie.Need-returns-2
+returns-2 c =
+    let r = c .before .before .answer2 .given .0 .0 in
+    let f : SFits w64 (c .refusal-number .result) = rw (c .refusal-number .ensures) (refusal-fits (number r) (numbers-few r)) in
+    toZ-ofZ f ∙ c .refusal-number .ensures ∙ sym (ap (λ (a : Encoded). cNumber (answerOf (toldEncoded a))) (c .before .before .answer2 .given .1))
+
+pub encoded-number-spec : {M : Type 1} → statement M
+encoded-number-spec =
+    tie.close
+    (tie.spec
+    enum-known-answer
+    cast-result
+    enum-known-answer-2
+    refusal-number-requires
+    returns
+    returns-2)

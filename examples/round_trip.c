@@ -1,0 +1,109 @@
+/*
+ * Draws a picture in BGRA, racking with pallets before a sky. Packs it twice, as RLE without alpha and raw with it, unpacks both, and sees
+ * that R, G and B are those that went in. Then writes what was unpacked as a PPM file, which any viewer opens, to the path given or to
+ * target/examples/round_trip.ppm.
+ */
+#include <inttypes.h>
+#include <stdio.h>
+#include <stdlib.h>
+#include <string.h>
+
+#include "rdp6.h"
+
+enum { WIDTH = 160, HEIGHT = 120, AREA = WIDTH * HEIGHT };
+
+struct color {
+    uint8_t r, g, b;
+};
+
+static uint8_t pixels[4 * AREA]; /* B, G, R, A */
+static uint8_t body[6 * AREA];   /* never too small: three planes of at most two bytes a sample, or four raw ones and a byte */
+static uint8_t work[3 * AREA];
+static uint8_t image[3 * AREA]; /* R, G, B */
+
+static bool within(size_t value, size_t first, size_t last)
+{
+    return first <= value && value <= last;
+}
+
+/* Four bays with three shelves each, one place of them empty. */
+static struct color color_at(size_t x, size_t y)
+{
+    static const struct color boxes[3] = {{196, 154, 96}, {70, 130, 90}, {170, 60, 50}};
+    struct color sky = {(uint8_t)(90 + y), (uint8_t)(150 + y / 2), (uint8_t)(255 - y / 4)};
+    if (y < 24)
+        return sky;
+    size_t bay = x / 39, in_bay = x % 39, shelf = (y - 24) / 32, in_shelf = (y - 24) % 32;
+    if (in_bay < 4)
+        return (struct color){30, 70, 150}; /* an upright */
+    if (in_shelf > 28)
+        return (struct color){230, 110, 20}; /* a beam */
+    if (!within(in_bay, 9, 33) || in_shelf < 6 || (bay == 2 && shelf == 1))
+        return sky;
+    if (in_shelf > 25)
+        return (struct color){120, 85, 50}; /* a pallet */
+    if (within(in_bay, 18, 24) && within(in_shelf, 12, 16))
+        return (struct color){250, 250, 240}; /* the label of a box */
+    return boxes[(bay + shelf) % 3];
+}
+
+static void draw(void)
+{
+    for (size_t i = 0; i < AREA; i++) {
+        struct color color = color_at(i % WIDTH, i / WIDTH);
+        pixels[4 * i] = color.b;
+        pixels[4 * i + 1] = color.g;
+        pixels[4 * i + 2] = color.r;
+        pixels[4 * i + 3] = 255;
+    }
+}
+
+/* A count. A refusal ends the program. */
+static size_t counted(int64_t answer)
+{
+    if (answer < 0) {
+        printf("refusal %" PRId64 "\n", -answer);
+        exit(1);
+    }
+    return (size_t)answer;
+}
+
+/* Unpacks the first bytes of body. alpha says whether A was packed: the header record that goes with such a body does not. */
+static void unpack(bool rle, bool alpha, size_t length)
+{
+    memset(image, 0, sizeof image);
+    counted(rdp6_decode(rle, alpha, RDP6_ARGB, 0, false, body, length, work, sizeof work, image, sizeof image, WIDTH, HEIGHT));
+    for (size_t i = 0; i < AREA; i++) {
+        const uint8_t *in = pixels + 4 * i, *out = image + 3 * i;
+        if (out[0] != in[2] || out[1] != in[1] || out[2] != in[0]) {
+            printf("pixel %zu is another\n", i);
+            exit(1);
+        }
+    }
+    printf("  unpacked, with the same R, G and B\n");
+}
+
+static void write_ppm(const char *path)
+{
+    FILE *file = fopen(path, "wb");
+    bool written = file != NULL && fprintf(file, "P6\n%d %d\n255\n", WIDTH, HEIGHT) > 0 && fwrite(image, sizeof image, 1, file) == 1;
+    if (file == NULL || fclose(file) != 0 || !written) {
+        printf("%s cannot be written\n", path);
+        exit(1);
+    }
+    printf("%s written\n", path);
+}
+
+int main(int argc, char **argv)
+{
+    draw();
+    printf("%d x %d pixels, %zu bytes\n", WIDTH, HEIGHT, sizeof pixels);
+    size_t length = counted(rdp6_encode_bitmap(pixels, sizeof pixels, body, sizeof body, true, WIDTH, HEIGHT));
+    printf("R, G, B in RLE: %zu bytes\n", length);
+    unpack(true, false, length);
+    length = counted(rdp6_encode_bitmap_alpha(pixels, sizeof pixels, body, sizeof body, false, WIDTH, HEIGHT));
+    printf("A, R, G, B raw: %zu bytes\n", length);
+    unpack(false, true, length);
+    write_ppm(argc > 1 ? argv[1] : "target/examples/round_trip.ppm");
+    return 0;
+}
