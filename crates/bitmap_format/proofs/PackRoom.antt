@@ -8,26 +8,15 @@ use native.Mathlib.Omega.{arith}
 use lib.ListN.{length, length-append}
 use Rattle.rle_format.specs.Answer.{Answer, counted, refused, stop}
 use Rattle.rle_format.specs.Segment.{Segment, allBytes}
-use Rattle.rle_format.specs.Pack.{planeSegments, packing, writeSegments}
+use Rattle.rle_format.specs.Pack.{planeSegments, packing}
 use Rattle.rle_format.proofs.Answer.{not-counted}
 use Rattle.rle_format.proofs.Cases.{le-or-gt}
 use Rattle.rle_format.proofs.Outcome.{same-answer}
 use Rattle.rle_format.proofs.Segments.{bytes-append}
-use Rattle.rle_format.proofs.Writing.{write-all, write-refused}
+use Rattle.rle_format.proofs.Writing.{write-all, write-counted}
 use Rattle.rle_format.proofs.PackingSize.{packing-most}
 use Rattle.bitmap_format.specs.PackPicture.{pictureSegments, rawBody, packTested, packPicture}
 use Rattle.bitmap_format.proofs.PackPicture.{packed-refused, packed-rle, packed-raw, packed-no-room}
-
--- so do segments that were all written
-segments-within : (ss : List Segment) (room n : ℕ) → writeSegments ss room .answer ≡ counted n → n ≤ room
-segments-within ss room n e =
-    ⊎-elim
-    (λ (fits : length (allBytes ss) ≤ room).
-    let all : counted (length (allBytes ss)) ≡ counted n = sym (same-answer (write-all ss room fits)) ∙ e in
-    let size : length (allBytes ss) ≡ n = cc in
-    omega arith)
-    (λ (short : room < length (allBytes ss)). not-counted (sym (write-refused ss room short) ∙ e))
-    (le-or-gt (length (allBytes ss)) room)
 
 pub packed-within : (rle : Bool) (w h room : ℕ) (planes : List (List ℕ)) (n : ℕ) → packPicture rle w h room planes .answer ≡ counted n → n ≤ room
 unfolding stop
@@ -44,7 +33,7 @@ packed-within rle w h room planes n e = by-tests (packTested w h planes) refl
         (le-or-gt (length (rawBody (w * h) planes)) room)
 
     body : (m : ℕ) → packTested w h planes ≡ counted m → (b : Bool) → rle ≡ b → n ≤ room
-    body m et true eb = segments-within (pictureSegments w h planes) room n (sym (same-answer (packed-rle rle w h room m planes et eb)) ∙ e)
+    body m et true eb = write-counted (pictureSegments w h planes) room n (sym e ∙ same-answer (packed-rle rle w h room m planes et eb))
     body m et false eb = raw m et eb
 
     by-tests : (a : Answer) → packTested w h planes ≡ a → n ≤ room
