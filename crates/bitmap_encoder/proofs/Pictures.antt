@@ -84,6 +84,6 @@ module _ (rle : Bool) (w h : ℕ) (planes : List (List ℕ)) (d : List ℕ) wher
 
 -- ---- the answer with its header record
 
-pub sent-as : (e : Encoded) (p : Packed) (header sent : BitmapStreamHeader) (a : Answer) → toldEncoded e ≡ sentWith header (toldPacked p) → header ≡ sent → toldPacked p ≡ a
-    → toldEncoded e ≡ sentWith sent a
-sent-as e p header sent a told is answer = told ∙ λ i. sentWith (is i) (answer i)
+pub sent-as : (header : BitmapStreamHeader) (e : Encoded) (p : Packed) (a : Answer) → toldEncoded e ≡ sentWith header (toldPacked p) → toldPacked p ≡ a
+    → toldEncoded e ≡ sentWith header a
+sent-as header e p a told answer = told ∙ ap (sentWith header) answer

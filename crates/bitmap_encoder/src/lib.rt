@@ -31,13 +31,13 @@ fn header_to_send(alpha: bool, rle: bool) -> BitmapStreamHeader
 }
 
 // What a packer answers: a count goes out with the header record, a refusal alone.
-fn encoded(answer: Packed, header: BitmapStreamHeader) -> Encoded
-    ensures { λ e. ⌜ toldEncoded e ≡ sentWith header (toldPacked answer) ⌝ }
+fn encoded(answer: Packed, alpha: bool, rle: bool) -> Encoded
+    ensures { λ e. ⌜ toldEncoded e ≡ sentWith (headerToSend alpha rle) (toldPacked answer) ⌝ }
 {
     match answer {
         Packed::Written(bytes) => Encoded::Written {
             bytes: bytes,
-            header: header,
+            header: header_to_send(alpha, rle),
         },
         Packed::Refused(reason) => Encoded::Refused(reason),
     }
@@ -58,7 +58,7 @@ pub fn encode_channels_stream(
     ensures slice { λ _. ⌜ now (dst .exit) ≡ over (now (dst .entry)) (packPicture rle width height (length (now (dst .entry))) (threePlanes (now (r .entry)) (now (g .entry)) (now (b .entry))) .written) ⌝ }
 {
     let answer = encode_three(r, g, b, Layout::Planar, dst, rle, width, height);
-    encoded(answer, header_to_send(false, rle))
+    encoded(answer, false, rle)
 }
 
 // The same with a plane for alpha, which goes out first.
@@ -76,7 +76,7 @@ pub fn encode_channels_stream_alpha(
     ensures slice { λ _. ⌜ now (dst .exit) ≡ over (now (dst .entry)) (packPicture rle width height (length (now (dst .entry))) (fourPlanes (now (r .entry)) (now (g .entry)) (now (b .entry)) (now (a .entry))) .written) ⌝ }
 {
     let answer = encode_four(r, g, b, a, Layout::Planar, dst, rle, width, height);
-    encoded(answer, header_to_send(true, rle))
+    encoded(answer, true, rle)
 }
 
 // Packs a picture from its pixels, in the layout of BgrAChannels, without their alpha.
@@ -85,7 +85,7 @@ pub fn encode_bitmap(src: &[u8], dst: &mut [u8], rle: bool, width: usize, height
     ensures slice { λ _. ⌜ now (dst .exit) ≡ over (now (dst .entry)) (packPicture rle width height (length (now (dst .entry))) (pixelPlanes bgrA (now (src .entry))) .written) ⌝ }
 {
     let answer = encode_three(src, src, src, Layout::BgrA, dst, rle, width, height);
-    encoded(answer, header_to_send(false, rle))
+    encoded(answer, false, rle)
 }
 
 // The same with their alpha.
@@ -100,5 +100,5 @@ pub fn encode_bitmap_alpha(
     ensures slice { λ _. ⌜ now (dst .exit) ≡ over (now (dst .entry)) (packPicture rle width height (length (now (dst .entry))) (pixelPlanesAlpha bgrA (now (src .entry))) .written) ⌝ }
 {
     let answer = encode_four(src, src, src, src, Layout::BgrA, dst, rle, width, height);
-    encoded(answer, header_to_send(true, rle))
+    encoded(answer, true, rle)
 }
