@@ -41,7 +41,7 @@ unfoldable pub pictureSegments : (width height : ℕ) (planes : List (List ℕ))
 pictureSegments width height [] = []
 pictureSegments width height (p ∷ planes) = planeSegments width height p ++ pictureSegments width height planes
 
--- the first n samples of each plane, which are all that "Outside the domain the port .. uses"
+-- the samples of a raw body, of each plane the first n; of a longer source the port "uses the first width × height samples" ("What is handed over")
 unfoldable pub rawPlanes : (n : ℕ) (planes : List (List ℕ)) → List ℕ
 rawPlanes n [] = []
 rawPlanes n (p ∷ planes) = take n p ++ rawPlanes n planes
