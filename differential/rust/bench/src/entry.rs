@@ -1,0 +1,138 @@
+//! What is measured: the same call of the Rust and of the port, from the same source into the same buffers.
+
+use comparer::encoding::given::pixels;
+use comparer::encoding::Sources;
+use comparer::picture::{Form, Planes};
+use comparer::planes::longest_packing;
+use std::hint::black_box;
+
+#[derive(Clone, Copy)]
+pub enum Entry {
+    UnpackPlane,
+    PackPlane,
+    Unpack(Form),
+    /// From pixels of B, G, R and A, of which three planes are packed.
+    PackPixels {
+        rle: bool,
+    },
+    PackChannels {
+        rle: bool,
+    },
+}
+
+const LEVEL: u8 = 3;
+
+/// The entries with their names, in the order of the tables.
+pub fn entries() -> [(&'static str, Entry); 9] {
+    [
+        ("plane unpack", Entry::UnpackPlane),
+        ("plane pack", Entry::PackPlane),
+        ("picture unpack, RLE ARGB", Entry::Unpack(Form::argb(true, false))),
+        ("picture unpack, raw AYCoCg", Entry::Unpack(Form::aycocg(false, false, LEVEL, false))),
+        ("picture unpack, raw AYCoCg subsampled", Entry::Unpack(Form::aycocg(false, false, LEVEL, true))),
+        ("picture pack, RLE, pixels", Entry::PackPixels { rle: true }),
+        ("picture pack, raw, pixels", Entry::PackPixels { rle: false }),
+        ("picture pack, RLE, channels", Entry::PackChannels { rle: true }),
+        ("picture pack, raw, channels", Entry::PackChannels { rle: false }),
+    ]
+}
+
+/// What a call writes to: the work area of a picture, and the output, which to the Rust's decoder is a vector that keeps what it has
+/// allocated.
+pub struct Buffers {
+    pub work: Vec<u8>,
+    pub out: Vec<u8>,
+}
+
+/// R, G and B, one behind the other.
+fn thirds(source: &[u8]) -> [&[u8]; 3] {
+    let third = source.len() / 3;
+    [0, 1, 2].map(|at| &source[at * third..][..third])
+}
+
+impl Entry {
+    /// The form that a picture of this entry has.
+    pub fn form(self) -> Form {
+        match self {
+            Entry::Unpack(form) => form,
+            _ => Form::argb(true, false),
+        }
+    }
+
+    /// What is handed over of a picture, or of its first plane.
+    pub fn source(self, planes: &Planes, side: usize) -> Vec<u8> {
+        let [first, _, _] = &planes.colours;
+        match self {
+            Entry::UnpackPlane => original::pack(first, side, side).expect("a whole plane with room"),
+            Entry::PackPlane => first.clone(),
+            Entry::Unpack(form) => planes.body(form, side, side),
+            Entry::PackChannels { .. } => planes.colours.concat(),
+            Entry::PackPixels { .. } => match pixels(planes) {
+                Sources::Pixels { pixels, .. } => pixels,
+                Sources::Channels { .. } => unreachable!("pixels"),
+            },
+        }
+    }
+
+    /// Buffers that have room for any result.
+    pub fn buffers(self, side: usize) -> Buffers {
+        let room = match self {
+            Entry::UnpackPlane => side * side,
+            Entry::PackPlane => longest_packing(side, side),
+            Entry::Unpack(_) => 3 * side * side,
+            Entry::PackPixels { .. } | Entry::PackChannels { .. } => 2 + 3 * longest_packing(side, side),
+        };
+        let work = match self {
+            Entry::Unpack(form) => form.work_len(side, side),
+            _ => 0,
+        };
+        Buffers { work: vec![0; work], out: vec![0; room] }
+    }
+
+    /// Where the output stands: behind the byte that the Rust writes as a header where it packs a picture.
+    pub fn start(self) -> usize {
+        usize::from(matches!(self, Entry::PackPixels { .. } | Entry::PackChannels { .. }))
+    }
+
+    /// How long the output is, by the answer.
+    pub fn output_len(self, answer: i64, side: usize) -> usize {
+        match self {
+            Entry::UnpackPlane => side * side,
+            _ => usize::try_from(answer).expect("a count"),
+        }
+    }
+
+    /// The Rust's answer as one number.
+    pub fn by_rust(self, source: &[u8], buffers: &mut Buffers, side: usize) -> i64 {
+        let (source, Buffers { work, out }) = (black_box(source), black_box(buffers));
+        let answer = match self {
+            Entry::UnpackPlane => original::unpack(source, out, side, side),
+            Entry::PackPlane => original::compress(source, out, side, side),
+            Entry::Unpack(form) => {
+                out.clear();
+                original::decode(form.header().expect("a form that the Rust has"), source, work, out, side, side)
+            }
+            Entry::PackPixels { rle } => original::encode_bitmap(source, false, out, rle, side, side).answer,
+            Entry::PackChannels { rle } => {
+                original::encode_channels(thirds(source), None, out, rle, side, side).answer
+            }
+        };
+        answer.number().expect("an answer")
+    }
+
+    /// The port's.
+    pub fn by_port(self, source: &[u8], buffers: &mut Buffers, side: usize) -> i64 {
+        let (source, Buffers { work, out }) = (black_box(source), black_box(buffers));
+        let out = &mut out[self.start()..];
+        match self {
+            Entry::UnpackPlane => ours::unpack(source, out, side, side),
+            Entry::PackPlane => ours::pack(source, out, side, side),
+            Entry::Unpack(Form { rle, alpha, definition, level, subsampled }) => {
+                let form = ours::Form { rle, alpha, definition, level, subsampled };
+                ours::decode(form, source, work, out, side, side)
+            }
+            Entry::PackPixels { rle } => ours::encode_bitmap(source, false, out, rle, side, side),
+            Entry::PackChannels { rle } => ours::encode_channels(thirds(source), None, out, rle, side, side),
+        }
+    }
+}

@@ -1,0 +1,135 @@
+//! The Rust, the port and a plain copy of the output, in turn within each round.
+
+use crate::clock::nanoseconds;
+use crate::entry::{Buffers, Entry};
+use crate::pages::Kind;
+use std::hint::black_box;
+
+/// A copy of less is repeated up to so many bytes, or the clock would be measured.
+const LEAST_COPIED: usize = 1 << 20;
+
+/// A source, the Rust's answer to it, and the output that it comes to.
+struct Input {
+    source: Vec<u8>,
+    answer: i64,
+    output: Vec<u8>,
+}
+
+impl Input {
+    /// What the Rust makes of a source.
+    fn new(entry: Entry, source: Vec<u8>, buffers: &mut Buffers, side: usize) -> Input {
+        let answer = entry.by_rust(&source, buffers, side);
+        let output = buffers.out[entry.start()..][..entry.output_len(answer, side)].to_vec();
+        Input { source, answer, output }
+    }
+}
+
+/// Who is measured.
+#[derive(Clone, Copy)]
+enum Who {
+    Rust,
+    Port,
+    Copy,
+}
+
+/// The order of each round starts one further than that of the round before.
+const ORDER: [Who; 3] = [Who::Rust, Who::Port, Who::Copy];
+
+/// Nanoseconds a pixel.
+#[derive(Clone, Copy)]
+pub struct Times {
+    pub rust: f64,
+    pub port: f64,
+    pub copy: f64,
+}
+
+/// Pictures that are measured together, one call each.
+pub struct Job {
+    entry: Entry,
+    side: usize,
+    inputs: Vec<Input>,
+    buffers: Buffers,
+}
+
+impl Job {
+    /// Every output of the port has been compared once.
+    pub fn new(entry: Entry, kind: Kind, side: usize) -> Job {
+        let mut buffers = entry.buffers(side);
+        let pictures = kind.pictures(entry.form(), side).into_iter();
+        let input = |planes| Input::new(entry, entry.source(&planes, side), &mut buffers, side);
+        let inputs = pictures.map(input).collect();
+        let mut job = Job { entry, side, inputs, buffers };
+        for at in 0..job.inputs.len() {
+            job.clear();
+            job.call(Who::Port, at);
+            job.check_output(at);
+        }
+        job
+    }
+
+    fn pixels(&self) -> usize {
+        self.inputs.len() * self.side * self.side
+    }
+
+    /// Bytes of output for each pixel.
+    pub fn output_share(&self) -> f64 {
+        let bytes: usize = self.inputs.iter().map(|input| input.output.len()).sum();
+        bytes as f64 / self.pixels() as f64
+    }
+
+    /// Nothing of an earlier output is left to be taken for the next one.
+    fn clear(&mut self) {
+        self.buffers.out.fill(0);
+    }
+
+    fn call(&mut self, who: Who, at: usize) {
+        let Job { entry, side, inputs, buffers } = self;
+        let Input { source, answer, output } = &inputs[at];
+        let given = match who {
+            Who::Rust => entry.by_rust(source, buffers, *side),
+            Who::Port => entry.by_port(source, buffers, *side),
+            Who::Copy => {
+                let to = &mut buffers.out[entry.start()..][..output.len()];
+                black_box(to).copy_from_slice(black_box(output));
+                *answer
+            }
+        };
+        assert_eq!(given, *answer, "all of it is done");
+    }
+
+    fn check_output(&self, at: usize) {
+        let out = &self.buffers.out[self.entry.start()..];
+        assert!(out.starts_with(&self.inputs[at].output), "the output is the Rust's");
+    }
+
+    /// How often all the calls are made in one measurement.
+    fn repeats(&self, who: Who) -> usize {
+        let bytes: usize = self.inputs.iter().map(|input| input.output.len()).sum();
+        match who {
+            Who::Copy => LEAST_COPIED.div_ceil(bytes),
+            Who::Rust | Who::Port => 1,
+        }
+    }
+
+    /// Nanoseconds a pixel of one measurement.
+    fn time_of(&mut self, who: Who) -> f64 {
+        let (calls, repeats) = (self.inputs.len(), self.repeats(who));
+        self.clear();
+        let time = nanoseconds(|| (0..repeats * calls).for_each(|at| self.call(who, at % calls)));
+        self.check_output(calls - 1);
+        time / (repeats * self.pixels()) as f64
+    }
+
+    /// The best of so many rounds.
+    pub fn best_times(&mut self, rounds: usize) -> Times {
+        let mut best = [f64::INFINITY; 3];
+        for round in 0..rounds {
+            for turn in 0..ORDER.len() {
+                let at = (round + turn) % ORDER.len();
+                best[at] = self.time_of(ORDER[at]).min(best[at]);
+            }
+        }
+        let [rust, port, copy] = best;
+        Times { rust, port, copy }
+    }
+}
