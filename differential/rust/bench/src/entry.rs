@@ -113,9 +113,7 @@ impl Entry {
                 original::decode(form.header().expect("a form that the Rust has"), source, work, out, side, side)
             }
             Entry::PackPixels { rle } => original::encode_bitmap(source, false, out, rle, side, side).answer,
-            Entry::PackChannels { rle } => {
-                original::encode_channels(thirds(source), None, out, rle, side, side).answer
-            }
+            Entry::PackChannels { rle } => original::encode_channels(thirds(source), None, out, rle, side, side).answer,
         };
         answer.number().expect("an answer")
     }

@@ -7,6 +7,7 @@ mod figures;
 mod measure;
 mod pages;
 mod speed;
+mod stack;
 
 use std::process::exit;
 
@@ -21,6 +22,7 @@ fn main() {
             _ => usage(),
         },
         ["--sizes"] => speed::print_size_table(),
+        ["--stack"] => stack::print_stack_table(),
         _ => usage(),
     }
 }

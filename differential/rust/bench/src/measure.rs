@@ -52,10 +52,10 @@ pub struct Job {
 }
 
 impl Job {
-    /// Every output of the port has been compared once.
-    pub fn new(entry: Entry, kind: Kind, side: usize) -> Job {
+    /// Pictures of this side that a sheet is cut into. Every output of the port has been compared once.
+    pub fn new(entry: Entry, kind: Kind, sheet_side: usize, side: usize) -> Job {
         let mut buffers = entry.buffers(side);
-        let pictures = kind.pictures(entry.form(), side).into_iter();
+        let pictures = kind.pictures(entry.form(), sheet_side, side).into_iter();
         let input = |planes| Input::new(entry, entry.source(&planes, side), &mut buffers, side);
         let inputs = pictures.map(input).collect();
         let mut job = Job { entry, side, inputs, buffers };

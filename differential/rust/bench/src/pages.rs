@@ -4,8 +4,7 @@ use comparer::picture::{Form, Planes};
 use comparer::planes::flat_page;
 use comparer::Rng;
 
-/// The side of what is drawn. Smaller pictures are cut out of it, larger ones are laid out of it, so that all have the same content
-/// for each pixel.
+/// The side of a picture as it is drawn.
 pub const DRAWN: usize = 1024;
 
 #[derive(Clone, Copy, PartialEq, Eq)]
@@ -17,7 +16,7 @@ pub enum Kind {
 
 pub const KINDS: [Kind; 3] = [Kind::Page, Kind::Noise, Kind::Gradient];
 
-/// By how many samples each plane of a picture of gradients goes before it rises by one, across and down.
+/// Every how many samples the planes of gradients rise by one, across and down.
 const SLOPES: [(usize, usize); 3] = [(4, 4), (4, 2), (8, 4)];
 
 impl Kind {
@@ -37,33 +36,41 @@ impl Kind {
         }
     }
 
-    /// As many pictures of this side as make up what is drawn, or one that is larger. Each has three different planes.
-    pub fn pictures(self, form: Form, side: usize) -> Vec<Planes> {
+    /// So many different drawings across and down as a sheet, cut into pictures of this side. So pictures of all sides can be had
+    /// that have the same content all in all. Each has three different planes.
+    pub fn pictures(self, form: Form, sheet_side: usize, side: usize) -> Vec<Planes> {
         let rng = &mut Rng::new(1024);
-        let (drawn_chroma, _) = form.chroma_sides(DRAWN, DRAWN);
-        let (chroma, _) = form.chroma_sides(side, side);
-        let sides = [(DRAWN, side), (drawn_chroma, chroma), (drawn_chroma, chroma)];
-        let mut at = 0;
-        let mut colours = sides.map(|(drawn, side)| {
-            let plane = self.drawn(rng, drawn, SLOPES[at]);
-            at += 1;
-            cut_or_laid(&plane, drawn, side).into_iter()
-        });
-        let mut next = || {
-            let [first, second, third] = &mut colours;
-            Some(Planes { alpha: None, colours: [first.next()?, second.next()?, third.next()?] })
+        let chroma = |side| form.chroma_sides(side, side).0;
+        let mut plane = |slope: usize, drawn: usize, sheet_side: usize, side: usize| {
+            let sheet = laid_out(|| self.drawn(rng, drawn, SLOPES[slope]), drawn, sheet_side);
+            cut(&sheet, sheet_side, side)
         };
-        std::iter::from_fn(&mut next).collect()
+        let first = plane(0, DRAWN, sheet_side, side);
+        let [second, third] = [1, 2].map(|slope| plane(slope, chroma(DRAWN), chroma(sheet_side), chroma(side)));
+        let colours = first.into_iter().zip(second).zip(third).map(|((first, second), third)| [first, second, third]);
+        colours.map(|colours| Planes { alpha: None, colours }).collect()
     }
 }
 
-/// The squares of this side that a square plane can be cut into; or one that is laid out of copies of it.
-fn cut_or_laid(plane: &[u8], drawn: usize, side: usize) -> Vec<Vec<u8>> {
-    let row = |y: usize| &plane[y % drawn * drawn..][..drawn];
-    if drawn < side {
-        return vec![(0..side).flat_map(|y| row(y).repeat(side / drawn)).collect()];
+/// Drawings side by side, row by row.
+fn laid_out(mut drawing: impl FnMut() -> Vec<u8>, drawn: usize, sheet_side: usize) -> Vec<u8> {
+    let across = sheet_side / drawn;
+    let mut sheet = Vec::with_capacity(sheet_side * sheet_side);
+    for _ in 0..across {
+        let drawings: Vec<Vec<u8>> = (0..across).map(|_| drawing()).collect();
+        let rows = (0..drawn).flat_map(|y| drawings.iter().map(move |drawing| &drawing[y * drawn..][..drawn]));
+        rows.for_each(|row| sheet.extend_from_slice(row));
     }
-    let starts = || (0..drawn).step_by(side);
-    let square = |top: usize, left: usize| (top..top + side).flat_map(|y| row(y)[left..left + side].to_vec()).collect();
-    starts().flat_map(|top| starts().map(move |left| (top, left))).map(|(top, left)| square(top, left)).collect()
+    sheet
+}
+
+/// The squares of this side that a sheet has.
+fn cut(sheet: &[u8], sheet_side: usize, side: usize) -> Vec<Vec<u8>> {
+    let starts = || (0..sheet_side).step_by(side);
+    let corners = starts().flat_map(|top| starts().map(move |left| (top, left)));
+    let square = |(top, left): (usize, usize)| {
+        let rows: Vec<&[u8]> = (top..top + side).map(|y| &sheet[y * sheet_side + left..][..side]).collect();
+        rows.concat()
+    };
+    corners.map(square).collect()
 }

@@ -16,7 +16,7 @@ struct Line {
 
 impl Line {
     fn new((name, entry): (&str, Entry), kind: Kind) -> Line {
-        Line { name: format!("{name}: {}", kind.name()), job: Job::new(entry, kind, DRAWN), runs: Vec::new() }
+        Line { name: format!("{name}: {}", kind.name()), job: Job::new(entry, kind, DRAWN, DRAWN), runs: Vec::new() }
     }
 
     fn spread(&self, of: impl Fn(&Times) -> f64) -> Spread {
@@ -61,25 +61,21 @@ pub fn print_main_table(runs: usize) {
 }
 
 const SIDES: [usize; 5] = [64, 256, 1024, 4096, 8192];
+/// All sides have as many pixels to do, which take seconds.
+const SHEET: usize = 8192;
+const SHEET_ROUNDS: usize = 3;
+/// How many of the entries are measured so.
+const SIZED: usize = 7;
 
-/// Large pictures take seconds, and their times move less.
-fn rounds(side: usize) -> usize {
-    match side {
-        8192 => 3,
-        4096 => 5,
-        _ => ROUNDS,
-    }
-}
-
-/// Every entry with a page of each size.
+/// Pages of each size.
 pub fn print_size_table() {
     let heads = SIDES.map(|side| format!("{0} × {0}", grouped(side)));
     let columns: Vec<&str> = ["Port / Rust, ns a pixel"].into_iter().chain(heads.iter().map(String::as_str)).collect();
     print_head(&columns);
-    for (name, entry) in entries() {
+    for (name, entry) in entries().into_iter().take(SIZED) {
         let cell = |side| {
             eprintln!("{name}, {side}");
-            let times = Job::new(entry, Kind::Page, side).best_times(rounds(side));
+            let times = Job::new(entry, Kind::Page, SHEET, side).best_times(SHEET_ROUNDS);
             format!("{} / {}", figure(times.port), figure(times.rust))
         };
         print_row([name.to_owned()].into_iter().chain(SIDES.map(cell)));

@@ -7,6 +7,9 @@ mod painted;
 use crate::figures::{grouped, print_head, print_row};
 use frames::Frames;
 
+/// A return address, or what else is pushed.
+const RETURN: usize = 8;
+
 /// The table of the C functions.
 pub fn print_stack_table() {
     let frames = Frames::of_library();
