@@ -5,9 +5,13 @@ use super::RETURN;
 use std::collections::{HashMap, HashSet};
 use std::process::{exit, Command};
 
-/// How often one function can stand on the stack. The segment writer calls the long-run writer, which is part of it in the machine
-/// code, and that calls the segment writer again with a run of at most 15, which is not handed on.
+/// The functions that may call themselves, and how often one of them can stand on the stack. The segment writer calls the long-run
+/// writer, and that calls the segment writer again with a run of at most 15, which is not handed on.
+const WRITERS: [&str; 2] = ["rle_encoder::segment::encode_segment", "rle_encoder::segment::encode_long_sequence"];
 const LEVELS: usize = 2;
+
+/// What is called of the C library. It takes no stack but its return address.
+const OUTSIDE: [&str; 4] = ["memcpy", "memset", "memmove", "bcmp"];
 
 enum Step {
     Push,
@@ -15,13 +19,18 @@ enum Step {
     Down(usize),
     Up(usize),
     Call(String),
-    /// To an address, with or without a test before.
+    /// To an address of the function, always or by a test.
     Jump {
         to: usize,
         always: bool,
     },
+    /// To another function, which then returns in this one's place.
+    Leave {
+        to: String,
+        always: bool,
+    },
     Return,
-    /// The lowest byte below the stack's end that an instruction may touch without taking it.
+    /// Touches so many bytes below the stack's end, which a function may do that calls nothing after.
     Below(usize),
     Other,
 }
@@ -41,10 +50,9 @@ fn stop(why: &str) -> ! {
 /// The text of the library's machine code.
 fn disassembly() -> String {
     let library =
-        std::env::var_os("RDP6_LIBRARY").unwrap_or_else(|| stop("RDP6_LIBRARY is not set; call differential/bench"));
+        std::env::var_os("RDP6_LIBRARY").unwrap_or_else(|| stop("call differential/bench, which finds the library"));
     let asked = Command::new("objdump").args(["-d", "-r", "--no-show-raw-insn"]).arg(library).output();
-    let output =
-        asked.unwrap_or_else(|why| stop(&format!("objdump does not run ({why}); Debian's package is binutils")));
+    let output = asked.unwrap_or_else(|why| stop(&format!("objdump of Debian's package binutils does not run, {why}")));
     if !output.status.success() {
         stop(String::from_utf8_lossy(&output.stderr).trim());
     }
@@ -61,51 +69,55 @@ fn below(operands: &str) -> Option<usize> {
     hexadecimal(before.rsplit([',', ' ']).next()?.strip_prefix('-')?)
 }
 
-fn step(instruction: &str) -> Step {
+/// What an instruction does to the stack; none of what is not foreseen here, as a jump by a pointer.
+fn step(instruction: &str) -> Option<Step> {
     let (name, operands) = instruction.split_once(char::is_whitespace).unwrap_or((instruction, ""));
     let operands = operands.trim();
+    let (target, function) = operands.split_once(" <").unwrap_or((operands, ""));
     let constant = || operands.strip_prefix('$').and_then(|rest| hexadecimal(rest.strip_suffix(",%rsp")?));
-    let target = || operands.split_whitespace().next().and_then(hexadecimal);
-    match name {
+    let step = match name {
+        _ if operands.contains('*') => return None,
         "push" => Step::Push,
         "pop" => Step::Pop,
         "ret" => Step::Return,
-        "call" => match operands.split_once('<').and_then(|(_, rest)| rest.strip_suffix('>')) {
-            Some(callee) => Step::Call(callee.to_owned()),
-            None => stop(&format!("a call by a pointer: {instruction}")),
-        },
-        _ if name.starts_with('j') => match target() {
-            Some(to) => Step::Jump { to, always: name == "jmp" },
-            None => stop(&format!("a jump by a pointer: {instruction}")),
-        },
-        "sub" if operands.ends_with(",%rsp") => constant().map_or_else(|| stop(instruction), Step::Down),
-        "add" if operands.ends_with(",%rsp") => constant().map_or_else(|| stop(instruction), Step::Up),
-        _ if operands.ends_with(",%rsp") || operands == "%rsp" || name == "leave" => stop(instruction),
+        "call" => Step::Call(function.trim_end_matches('>').to_owned()),
+        _ if name.starts_with('j') => Step::Jump { to: hexadecimal(target)?, always: name == "jmp" },
+        "sub" if operands.ends_with(",%rsp") => Step::Down(constant()?),
+        "add" if operands.ends_with(",%rsp") => Step::Up(constant()?),
+        _ if operands.ends_with(",%rsp") || operands == "%rsp" || name == "leave" => return None,
         _ => below(operands).map_or(Step::Other, Step::Below),
-    }
+    };
+    Some(step)
 }
 
-/// The name in a relocation such as `.text.rle_encoder::segment::encode_segment-0x4`.
-fn callee(relocation: &str) -> &str {
+/// The relocation of a call or a jump, such as `.text.rle_encoder::segment::encode_segment-0x4`, says where it goes.
+fn relocate(step: &mut Step, relocation: &str) {
     let name = relocation.rsplit_once("-0x").map_or(relocation, |(name, _)| name);
-    name.strip_prefix(".text.").unwrap_or(name)
+    let to = name.strip_prefix(".text.").unwrap_or(name).to_owned();
+    match step {
+        Step::Call(callee) => *callee = to,
+        Step::Jump { always, .. } => *step = Step::Leave { to, always: *always },
+        _ => {}
+    }
 }
 
 impl Frames {
     pub fn of_library() -> Frames {
         let mut functions: HashMap<String, Code> = HashMap::new();
-        let mut code = Code::new();
         let mut name = String::new();
         for line in disassembly().lines() {
-            if let Some(next) = line.strip_suffix(">:").and_then(|line| line.split_once('<')) {
-                functions.insert(std::mem::replace(&mut name, next.1.to_owned()), std::mem::take(&mut code));
-            } else if let Some((_, relocation)) = line.split_once("R_X86_64_PLT32\t") {
-                name_callee(&mut code, callee(relocation));
+            if let Some((_, function)) = line.strip_suffix(">:").and_then(|line| line.split_once('<')) {
+                name = function.to_owned();
+                continue;
+            }
+            let code = functions.entry(name.clone()).or_default();
+            if let Some((_, relocation)) = line.split_once("R_X86_64_PLT32\t") {
+                code.iter_mut().last().into_iter().for_each(|(_, step)| relocate(step, relocation));
             } else if let Some((address, instruction)) = line.split_once(":\t") {
-                code.extend(hexadecimal(address.trim()).map(|address| (address, step(instruction.trim()))));
+                let step = || step(instruction.trim()).unwrap_or_else(|| stop(&format!("it has `{instruction}`")));
+                code.extend(hexadecimal(address.trim()).map(|address| (address, step())));
             }
         }
-        functions.insert(name, code);
         Frames { functions }
     }
 
@@ -115,16 +127,21 @@ impl Frames {
     }
 
     fn most_within<'a>(&'a self, name: &'a str, callers: &mut Vec<&'a str>) -> usize {
-        let Some(code) = self.functions.get(name) else {
-            return RETURN; // the C library's memcpy and memset, which take nothing more
-        };
+        if OUTSIDE.contains(&name) {
+            return RETURN;
+        }
+        let code = self.functions.get(name).unwrap_or_else(|| stop(&format!("there is no {name}")));
         let levels = callers.iter().filter(|&&caller| caller == name).count();
+        if 0 < levels && !WRITERS.contains(&name) {
+            stop(&format!("{name} calls itself"));
+        }
         if levels == LEVELS {
             return 0;
         }
         callers.push(name);
         let most = heights(code).into_iter().map(|(at, height)| match &code[at].1 {
             Step::Call(callee) => height + self.most_within(callee, callers),
+            Step::Leave { to, .. } => height + self.most_within(to, callers).saturating_sub(RETURN),
             Step::Below(bytes) => height + bytes,
             _ => height,
         });
@@ -134,37 +151,27 @@ impl Frames {
     }
 }
 
-/// A call's relocation says what is called; a jump with one leaves the function.
-fn name_callee(code: &mut Code, name: &str) {
-    match code.last_mut() {
-        Some((_, Step::Call(callee))) => *callee = name.to_owned(),
-        _ => stop(&format!("a jump to {name}")),
-    }
-}
-
-/// Every place that can be reached, with the bytes that the function has taken of the stack when it comes there, and behind it.
+/// Every place that can be reached, with the bytes that the function has taken of the stack when it comes there.
 fn heights(code: &Code) -> HashSet<(usize, usize)> {
     let places: HashMap<usize, usize> = code.iter().enumerate().map(|(at, (address, _))| (*address, at)).collect();
     let mut reached = HashSet::new();
     let mut left = vec![(0, 0)];
     while let Some((at, height)) = left.pop() {
-        if at >= code.len() || !reached.insert((at, height)) {
+        if !reached.insert((at, height)) {
             continue;
         }
-        match code[at].1 {
-            Step::Push => left.push((at + 1, height + RETURN)),
-            Step::Pop => left.push((at + 1, height - RETURN)),
-            Step::Down(bytes) => left.push((at + 1, height + bytes)),
-            Step::Up(bytes) => left.push((at + 1, height - bytes)),
-            Step::Return => assert_eq!(height, 0, "the stack is given back"),
-            Step::Jump { to, always } => {
-                left.push((places[&to], height));
-                if !always {
-                    left.push((at + 1, height));
-                }
-            }
-            Step::Call(_) | Step::Below(_) | Step::Other => left.push((at + 1, height)),
+        let next = match code[at].1 {
+            Step::Push => Some(height + RETURN),
+            Step::Pop => Some(height - RETURN),
+            Step::Down(bytes) => Some(height + bytes),
+            Step::Up(bytes) => Some(height - bytes),
+            Step::Jump { always: true, .. } | Step::Leave { always: true, .. } | Step::Return => None,
+            _ => Some(height),
+        };
+        if let Step::Jump { to, .. } = code[at].1 {
+            left.push((places[&to], height));
         }
+        left.extend(next.map(|height| (at + 1, height)));
     }
     reached
 }
