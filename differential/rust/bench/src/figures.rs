@@ -3,7 +3,7 @@
 /// A time or a ratio, with as many digits as it is worth.
 pub fn figure(value: f64) -> String {
     let decimals = match value {
-        _ if value >= 99.5 => 0,
+        _ if value >= 99.5 => return grouped(value.round() as usize),
         _ if value >= 9.95 => 1,
         _ if value >= 0.0995 => 2,
         _ if value >= 0.00995 => 3,
