@@ -3,8 +3,8 @@ use Rattle.bitmap_format.specs.Picture.{tested}
 use mathlib.Core.Path.{sym, _∙_}
 use Rattle.rle_format.proofs.Sides.{no-width, no-height, too-wide, too-high, in-sides}
 use borrow.Author.Needs.{needs}
-use Rattle.bitmap_decoder.proofs.refusals.first_refusal.Statement.{statement}
-use Rattle.bitmap_decoder.proofs.refusals.first_refusal.Tie as tie
+use Rattle.bitmap_refusals.proofs.first_refusal.Statement.{statement}
+use Rattle.bitmap_refusals.proofs.first_refusal.Tie as tie
 
 returns : tie.Need-returns
 unfolding tested

@@ -1,4 +1,5 @@
-// The tests before a picture is read, in the order of document 01's table.
+// The tests before a picture is unpacked, in the order of document 01's table ("Where each refusal is checked"). They look at numbers
+// alone, so they have a crate of their own: nothing that reads or writes a slice is proved again when a test changes.
 ghost use mathlib.Core.Path.{_≡_};
 ghost use Prim.Native.Nat.{_≤_};
 ghost use Rattle.rle_format.specs.Answer.{counted};
@@ -27,8 +28,9 @@ fn is_loss_wrong(definition: ColorPlaneDefinition) -> bool
     }
 }
 
-// The first refusal of a picture with slices of these lengths, or the answer that it gets if its planes are right.
-pub(crate) fn first_refusal(
+// The first of refusals 1 to 6 of a picture with a body, a work area and an image of these lengths; or, if none is due, the answer that
+// it gets if its planes are right, the bytes of its image.
+pub fn first_refusal(
     header: BitmapStreamHeader,
     width: usize,
     height: usize,

@@ -4,8 +4,8 @@ use borrow.Author.Tests.{ne-eqb}
 use Rattle.bitmap_format.specs.Picture.{lossWrong}
 use Rattle.bitmap_format.proofs.Picture.{loss-over}
 use borrow.Author.Needs.{needs}
-use Rattle.bitmap_decoder.proofs.refusals.is_loss_wrong.Statement.{statement}
-use Rattle.bitmap_decoder.proofs.refusals.is_loss_wrong.Tie as tie
+use Rattle.bitmap_refusals.proofs.is_loss_wrong.Statement.{statement}
+use Rattle.bitmap_refusals.proofs.is_loss_wrong.Tie as tie
 
 enum-told : tie.Need-enum-told
 enum-told c = search needs

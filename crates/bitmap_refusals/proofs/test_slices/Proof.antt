@@ -4,8 +4,8 @@ use Rattle.rle_format.proofs.Sides.{in-sides}
 use Rattle.bitmap_format.specs.Sizes.{leastBody, workSize, imageSize}
 use Rattle.bitmap_format.proofs.Tested.{loss-refused, body-refused, work-refused, image-refused, all-passed}
 use borrow.Author.Needs.{needs}
-use Rattle.bitmap_decoder.proofs.refusals.test_slices.Statement.{statement}
-use Rattle.bitmap_decoder.proofs.refusals.test_slices.Tie as tie
+use Rattle.bitmap_refusals.proofs.test_slices.Statement.{statement}
+use Rattle.bitmap_refusals.proofs.test_slices.Tie as tie
 
 -- the least sizes, since the sides are right
 least-body : (k : tie.After-image-size) → k .before .before .min-body-size .result ≡ leastBody (k .before .before .before .before .args .header) (k .before .before .before .before .args .width) (k .before .before .before .before .args .height)
