@@ -80,7 +80,7 @@ static void unpack_half(size_t length)
             if (image.rgb[i] != fill)
                 fail("DIFFERENT: refusal %" PRId64 " touched byte %zu of the image.", refusal, i);
     }
-    printf("The packed picture cut in the middle, to %zu bytes: refusal %" PRId64 "; the image is untouched\n", half, refusal);
+    printf("The packed picture cut in the middle, to %zu bytes: refusal %" PRId64 ", bytes are missing; the image is untouched\n", half, refusal);
 }
 
 /* Packs the first rows of a plane, and answers how many bytes that makes. They are the first bytes of the whole plane's packing. */

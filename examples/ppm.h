@@ -15,7 +15,7 @@
 #include <stdlib.h>
 #include <string.h>
 
-enum { MAX_SIDE = 8192 }; /* of what the library packs */
+#include "rdp6.h"
 
 struct picture {
     size_t width, height;
@@ -68,8 +68,8 @@ static inline struct picture read_ppm(const char *path)
     if (!binary)
         fail("%s is not a PPM picture of the binary form, P6. %s", path, advice);
     size_t width = header_number(file), height = header_number(file), largest = header_number(file);
-    if (width < 1 || width > MAX_SIDE || height < 1 || height > MAX_SIDE)
-        fail("%s is %zu x %zu pixels by its header; only sides of 1 to %d can be packed.", path, width, height, MAX_SIDE);
+    if (width < 1 || width > RDP6_MAX_SIDE || height < 1 || height > RDP6_MAX_SIDE)
+        fail("%s is %zu x %zu pixels by its header; only sides of 1 to %d can be packed.", path, width, height, RDP6_MAX_SIDE);
     if (largest != 255 || !isspace(getc(file)))
         fail("%s is not a PPM picture with samples of 0 to 255: its header ends in %zu. %s", path, largest, advice);
     struct picture picture = {width, height, allocate(3 * width * height)};
