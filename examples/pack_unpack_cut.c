@@ -80,7 +80,8 @@ static void unpack_half(size_t length)
             if (image.rgb[i] != fill)
                 fail("DIFFERENT: refusal %" PRId64 " touched byte %zu of the image.", refusal, i);
     }
-    printf("The packed picture cut in the middle, to %zu bytes: refusal %" PRId64 ", bytes are missing; the image is untouched\n", half, refusal);
+    printf("The packed picture cut in the middle, to %zu bytes: ", half);
+    printf("refusal %" PRId64 ", bytes are missing; the image is untouched\n", refusal);
 }
 
 /* Packs the first rows of a plane, and answers how many bytes that makes. They are the first bytes of the whole plane's packing. */
@@ -178,7 +179,7 @@ int main(int argc, char **argv)
     write_image("What survives of them, on magenta", folder, "cut.ppm");
     printf("Proved, of every input (README.md, \"What is proved\"):\n"
            "  a picture is shown whole or not at all: no refusal touches the image;\n"
-           "  where a packed plane is cut, every row whose bytes are all there comes back as it was, and nothing behind the next is touched;\n"
+           "  of a cut plane every row whose bytes are all there comes back as it was, and nothing behind the next row is touched;\n"
            "  each call returns, and reads and writes nothing outside the slices that it is lent.\n");
     return 0;
 }

@@ -98,8 +98,8 @@ enum rdp6_definition {
  *   work_len    RLE: width * height + 2 * chroma, which rdp6_work_size computes; raw: 0
  *   image_len   3 * width * height, which rdp6_image_size computes
  *
- * An RLE picture is unpacked by way of work, which then holds its three colour planes one after the other; the first overwrites alpha. A raw
- * picture does not touch work, which may be NULL and 0 then.
+ * An RLE picture is unpacked by way of work, which then holds its three colour planes one after the other; the first overwrites alpha.
+ * A raw picture does not touch work, which may be NULL and 0 then.
  *
  * Refusals, tested in this order. The image is unchanged by every one of them:
  *    1  width or height is 0                                          }
