@@ -1,5 +1,7 @@
 //! Unpacking a picture.
 
+use std::fmt;
+
 use crate::ffi;
 use crate::header::Definition;
 use crate::{BitmapStreamHeader, Refusal};
@@ -118,9 +120,17 @@ pub fn image_size(width: usize, height: usize) -> usize {
 /// A decoder of pictures that keeps its work area from picture to picture, so that it is allocated once for the largest.
 ///
 /// [`decode`] is the same over slices of the caller's, without any allocation.
-#[derive(Debug, Default)]
+#[derive(Default)]
 pub struct BitmapStreamDecoder {
     planes_buffer: Vec<u8>,
+}
+
+/// The length of the work area and not its bytes, which are millions.
+impl fmt::Debug for BitmapStreamDecoder {
+    fn fmt(&self, f: &mut fmt::Formatter<'_>) -> fmt::Result {
+        let length = format_args!("{} bytes", self.planes_buffer.len());
+        f.debug_struct("BitmapStreamDecoder").field("planes_buffer", &length).finish()
+    }
 }
 
 impl BitmapStreamDecoder {

@@ -19,7 +19,18 @@ mod sealed {
     }
 }
 
-/// Where the colours stand in a pixel. The library has its layouts built in, so that no other type can implement this.
+/// Where the colours stand in a pixel. The library has its layouts built in, so that no other type can implement this:
+///
+/// ```compile_fail
+/// struct Own;
+///
+/// impl rdp6::ColorChannels for Own {
+///     const STRIDE: usize = 4;
+///     const R: usize = 0;
+///     const G: usize = 1;
+///     const B: usize = 2;
+/// }
+/// ```
 pub trait ColorChannels: sealed::Layout {
     /// The bytes of a pixel.
     const STRIDE: usize;
