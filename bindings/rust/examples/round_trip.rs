@@ -23,7 +23,7 @@ fn color_at(x: usize, y: usize) -> [u8; 3] {
     match (in_bay, in_shelf) {
         (0..=3, _) => [30, 70, 150], // an upright
         (_, 29..) => [230, 110, 20], // a beam
-        (..=8 | 34.., _) | (_, ..=5) => sky,
+        (0..=8 | 34.., _) | (_, 0..=5) => sky,
         _ if bay == 2 && shelf == 1 => sky,
         (_, 26..) => [120, 85, 50],            // a pallet
         (18..=24, 12..=16) => [250, 250, 240], // the label of a box

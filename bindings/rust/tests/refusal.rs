@@ -72,7 +72,8 @@ mod service {
     }
 
     pub fn picture(body: &[u8]) -> Result<usize, BitmapDecodeError> {
-        Ok(plane(body, &mut [0])?)
+        let first = plane(body, &mut [0])?;
+        Ok(first + plane(&body[first..], &mut [0])?)
     }
 
     pub fn is_bad_control(error: RleDecodeError) -> bool {

@@ -128,8 +128,8 @@ pub struct BitmapStreamDecoder {
 /// The length of the work area and not its bytes, which are millions.
 impl fmt::Debug for BitmapStreamDecoder {
     fn fmt(&self, f: &mut fmt::Formatter<'_>) -> fmt::Result {
-        let length = format_args!("{} bytes", self.planes_buffer.len());
-        f.debug_struct("BitmapStreamDecoder").field("planes_buffer", &length).finish()
+        let length = self.planes_buffer.len();
+        f.debug_struct("BitmapStreamDecoder").field("planes_buffer", &format_args!("{length} bytes")).finish()
     }
 }
 
