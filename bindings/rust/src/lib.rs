@@ -42,16 +42,16 @@
 //! | [`BitmapStreamEncoder`] | no | channels or pixels to a picture's body |
 //! | [`decompress_8bpp_plane`], [`compress_8bpp_plane`] | no | an RLE plane, both ways |
 //!
-//! The modules [`rle`], [`bitmap_stream::decoder`] and [`bitmap_stream::encoder`] are those of the original, so that a service changes the root
-//! of its `use` lines. What else it must change is in docs/DIFFERENCES.md of the repository, "The Rust binding": above all, **no header
-//! byte is read or written here**.
+//! The modules [`rle`], [`bitmap_stream::decoder`] and [`bitmap_stream::encoder`] are those of the original, so that a service changes
+//! the root of its `use` lines. What else it must change is in docs/DIFFERENCES.md of the repository, "The Rust binding": above all,
+//! **no header byte is read or written here**.
 //!
 //! # What is proved, and what must be believed
 //!
-//! Every function of the library is proved, on every input, to return, to stay inside its slices, and to give the answer and the bytes that its
-//! definition gives; the repository's README has it at length. This crate is not proved. It is small: it lends slices with their lengths, opens
-//! the answers, names the record to send, and makes vectors longer. Its declarations of the C functions are held to include/rdp6.h
-//! by a test.
+//! Every function of the library is proved, on every input, to return, to stay inside its slices, and to give the answer and the bytes
+//! that its definition gives; the repository's README has it at length. This crate is not proved. It is small: it lends slices with
+//! their lengths, opens the answers, names the record to send, and makes vectors longer. Its declarations of the C functions are held
+//! to include/rdp6.h by a test.
 //!
 //! There is no state: any number of threads may call at once.
 

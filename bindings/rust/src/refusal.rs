@@ -3,10 +3,10 @@
 use std::error::Error;
 use std::fmt;
 
-/// Why a call is refused: one of the twelve numbers, which are the values of the variants.
+/// Why a call is refused: one of twelve numbers, which are the values of the variants.
 ///
-/// Each function says which it gives, in the order in which it tests for them, and what it leaves in the slices then. The names are those of
-/// the original's errors where it has one. Later versions may add numbers.
+/// Each function says which it gives, in the order in which it tests for them, and what it leaves in the slices then. The names are
+/// those of the original's errors where it has one. Later versions may add numbers.
 ///
 /// ```
 /// use rdp6::Refusal;
@@ -63,7 +63,7 @@ const ALL: [Refusal; 12] = [
 ];
 
 impl Refusal {
-    /// The number, 1 to 12, as the C functions and the papers of the format have it.
+    /// The number, 1 to 12, which is also what the C functions answer, with a minus.
     pub const fn number(self) -> u8 {
         self as u8
     }

@@ -48,7 +48,8 @@ pub type BitmapDecodeError = Refusal;
 /// | 8 | a control byte is 0 (RLE only) | the same |
 /// | 9 | a segment passes the width (RLE only) | the same |
 ///
-/// The least size of a raw body is the sum of its planes. That of an RLE body is the sum over its planes of height × (width / 47 rounded up).
+/// The least size of a raw body is the sum of its planes. That of an RLE body is the sum over its planes of height × (width / 47
+/// rounded up).
 pub fn decode(
     header: BitmapStreamHeader,
     body: &[u8],
@@ -80,8 +81,8 @@ pub fn decode(
     ffi::told(answer)
 }
 
-/// The least length of the work area that [`decode`] asks for: the bytes of the three colour planes, or 0 if the picture is raw. It is 0 for
-/// sides that are refused, and does not look at the loss level.
+/// The least length of the work area that [`decode`] asks for: the bytes of the three colour planes, or 0 if the picture is raw. It is
+/// 0 for sides that are refused, and does not look at the loss level.
 ///
 /// ```
 /// use rdp6::{BitmapStreamHeader, ColorPlaneDefinition};
@@ -106,7 +107,8 @@ pub fn work_size(header: BitmapStreamHeader, width: usize, height: usize) -> usi
     }
 }
 
-/// The least length of the image that [`decode`] asks for, 3 × `width` × `height`. It is 0 for sides that are refused, and 201,326,592 at most.
+/// The least length of the image that [`decode`] asks for, 3 × `width` × `height`. It is 0 for sides that are refused, and 201,326,592
+/// at most.
 ///
 /// ```
 /// assert_eq!(rdp6::image_size(640, 480), 921_600);
@@ -153,8 +155,8 @@ impl BitmapStreamDecoder {
     ///
     /// # Errors
     ///
-    /// 1, 2, 3, 4, 7, 8 and 9, as [`decode`] has them and in its order; 5 and 6 never, since both areas are made as long as they must be. `dst`
-    /// holds what it held after every one of them. Nothing is allocated for a picture that gets one of the first four.
+    /// 1, 2, 3, 4, 7, 8 and 9, as [`decode`] has them and in its order; 5 and 6 never, since both areas are made as long as they must
+    /// be. `dst` holds what it held after every one of them. Nothing is allocated for a picture that gets one of the first four.
     ///
     /// # Aborts
     ///

@@ -88,8 +88,9 @@ pub struct Encoded {
     pub bytes: usize,
     /// The record that the header byte is to say: RLE as asked, ARGB, and no alpha.
     ///
-    /// There is no alpha flag with four planes either, since the original sends none, although MS-RDPEGDI asks for it. A decoder that goes by
-    /// this record takes A for R, R for G and G for B. Whoever unpacks such a body sets `use_alpha`, and so should whoever sends it.
+    /// There is no alpha flag with four planes either, since the original sends none, although MS-RDPEGDI asks for it. A decoder that
+    /// goes by this record takes A for R, R for G and G for B. Whoever unpacks such a body sets `use_alpha`, and so should whoever
+    /// sends it.
     pub header: BitmapStreamHeader,
 }
 
