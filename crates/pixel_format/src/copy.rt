@@ -26,18 +26,6 @@ pub(crate) fn least(a: usize, b: usize) -> usize
     if a < b { a } else { b }
 }
 
-// Copies n bytes, from byte `from` on, to the start of dst.
-pub(crate) fn copy_plane(src: &[u8], from: usize, n: usize, dst: &mut [u8])
-    requires { ⌜ (from + n ≤ length (now src)) × (n ≤ length (now dst)) ⌝ }
-    ensures { λ _. ⌜ now (dst .exit) ≡ over (now (dst .entry)) (take n (drop from (now (src .entry)))) ⌝ }
-{
-    let mut i = 0;
-    while i < n {
-        dst[i] = src[from + i];
-        i += 1;
-    }
-}
-
 // Copies the bytes at `place` of n pixels, from pixel `from` on, to the start of dst. The stride is a constant, so that the compiler can turn
 // this into wide steps.
 pub(crate) fn copy_channel(pixels: &[u8], place: usize, from: usize, n: usize, dst: &mut [u8])
