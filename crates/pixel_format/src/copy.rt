@@ -1,6 +1,6 @@
-// The loops that copy samples.
+// What reading a channel goes by: its place in a pixel, how many samples, and the loop over pixels.
 ghost use mathlib.Core.Path.{_≡_};
-ghost use Prim.Native.Nat.{_+_, _*_, _≤_, _<_, _/_, min};
+ghost use Prim.Native.Nat.{_+_, _≤_, _<_, _/_, min};
 ghost use lib.ListN.{length, take, drop};
 ghost use Rattle.rle_format.specs.Slice.{over};
 ghost use Rattle.pixel_format.specs.Channel.{bgrA, placeOf, spaced};

@@ -29,7 +29,7 @@ fn delta_row(above: &mut [u8], codes: &mut [u8])
 }
 
 // `codes` has the samples of row r, and `above` those of the row above it, which the first row does not read. Then `codes` has the
-// row's coded values, and `above` its samples.
+// row's coded values, and `above` its samples. The first row is coded by value: its samples are its codes, and are only kept.
 pub(crate) fn code_scanline(r: usize, above: &mut [u8], codes: &mut [u8])
     requires { ⌜ length (now above) ≡ length (now codes) ⌝ }
     ensures codes { λ _. ⌜ now (codes .exit) ≡ coded r (now (above .entry)) (now (codes .entry)) ⌝ }

@@ -2,10 +2,9 @@
 // of it, and answers the index behind what was written, or refusal 12 at the first segment that does not fit.
 ghost use mathlib.Core.Path.{_≡_};
 ghost use mathlib.Core.List.{[], _∷_};
-ghost use Prim.Native.Nat.{_+_, _≤_, _<_, min};
+ghost use Prim.Native.Nat.{_≤_, _<_, min};
 ghost use lib.ListN.{length};
 ghost use Rattle.rle_format.specs.Answer.{toldPacked};
-ghost use Rattle.rle_format.specs.Slice.{putAt};
 ghost use Rattle.rle_format.specs.Pack.{literal, repeat, segmentsOf, longRun};
 ghost use Rattle.rle_format.specs.Written.{answerAt, sliceAt};
 use rle_format::Packed;
