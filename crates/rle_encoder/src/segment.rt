@@ -2,10 +2,9 @@
 // of it, and answers the index behind what was written, or refusal 12 at the first segment that does not fit.
 ghost use mathlib.Core.Path.{_≡_};
 ghost use mathlib.Core.List.{[], _∷_};
-ghost use Prim.Native.Nat.{_+_, _≤_, _<_, min};
+ghost use Prim.Native.Nat.{_≤_, _<_, min};
 ghost use lib.ListN.{length};
 ghost use Rattle.rle_format.specs.Answer.{toldPacked};
-ghost use Rattle.rle_format.specs.Slice.{putAt};
 ghost use Rattle.rle_format.specs.Pack.{literal, repeat, segmentsOf, longRun};
 ghost use Rattle.rle_format.specs.Written.{answerAt, sliceAt};
 use rle_format::Packed;
@@ -13,18 +12,6 @@ use rle_format::Refusal;
 
 // The longest run in one control byte.
 const MAX_DECODED_SEGMENT_SIZE: usize = 47;
-
-// Copies the raw bytes to dst from index `at` on.
-fn copy_raw(raw: &[u8], dst: &mut [u8], at: usize)
-    requires { ⌜ at + length (now raw) ≤ length (now dst) ⌝ }
-    ensures { λ _. ⌜ now (dst .exit) ≡ putAt (now (dst .entry)) at (now (raw .entry)) ⌝ }
-{
-    let mut i = 0;
-    while i < raw.len() {
-        dst[at + i] = raw[i];
-        i += 1;
-    }
-}
 
 // One segment of up to 15 raw bytes and a run of up to 15.
 fn write_literal(raw: &[u8], run: usize, dst: &mut [u8], at: usize) -> Packed
@@ -37,7 +24,7 @@ fn write_literal(raw: &[u8], run: usize, dst: &mut [u8], at: usize) -> Packed
         return Packed::Refused(Refusal::BufferTooSmall);
     }
     dst[at] = (16 * raw_len + run) as u8;
-    copy_raw(raw, dst, at + 1);
+    bytes::copy(raw, &mut dst[at + 1..]);
     Packed::Written(at + 1 + raw_len)
 }
 
