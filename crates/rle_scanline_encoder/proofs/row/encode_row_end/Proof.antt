@@ -3,15 +3,15 @@ use Prim.Native.Nat.{ℕ, _+_, _-_}
 use lib.ListN.{length, take, drop}
 use Rattle.rle_format.specs.Pack.{segmentsOf}
 use Rattle.rle_format.proofs.Slice.{tail-is}
-use Rattle.rle_encoder.specs.RowEnd.{rowEnd}
+use Rattle.rle_scanline_encoder.specs.RowEnd.{rowEnd}
 use Rattle.rle_format.proofs.Head.{head-first, head-rest, head-last}
-use Rattle.rle_encoder.proofs.Scan.{run-end, raw-end}
+use Rattle.rle_scanline_encoder.proofs.Scan.{run-end, raw-end}
 use native.Mathlib.Omega.{arith}
 use mathlib.Core.Path.{sym, ap, _∙_}
 use mathlib.Core.List.{List}
 use borrow.Author.Needs.{needs}
-use Rattle.rle_encoder.proofs.row.encode_row_end.Statement.{statement}
-use Rattle.rle_encoder.proofs.row.encode_row_end.Tie as tie
+use Rattle.rle_scanline_encoder.proofs.row.encode_row_end.Statement.{statement}
+use Rattle.rle_scanline_encoder.proofs.row.encode_row_end.Tie as tie
 
 sub-repeats : tie.Need-sub-repeats
 sub-repeats c = search needs

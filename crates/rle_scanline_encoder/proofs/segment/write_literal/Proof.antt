@@ -8,8 +8,8 @@ use Rattle.rle_format.proofs.Writing.{control-short}
 use Rattle.rle_format.proofs.Head.{wrote-none, wrote-one}
 use Rattle.rle_format.proofs.Slice.{copied, tail-room, length-put-back, lent-over}
 use borrow.Author.Needs.{needs}
-use Rattle.rle_encoder.proofs.segment.write_literal.Statement.{statement}
-use Rattle.rle_encoder.proofs.segment.write_literal.Tie as tie
+use Rattle.rle_scanline_encoder.proofs.segment.write_literal.Statement.{statement}
+use Rattle.rle_scanline_encoder.proofs.segment.write_literal.Tie as tie
 
 sub-if1 : tie.Need-sub-if1
 sub-if1 c = search needs

@@ -5,7 +5,7 @@ ghost use lib.ListN.{length};
 ghost use Rattle.rle_format.specs.Answer.{toldPacked};
 ghost use Rattle.rle_format.specs.Pack.{rowSegments};
 ghost use Rattle.rle_format.specs.Written.{answerAt, sliceAt};
-ghost use Rattle.rle_encoder.specs.RowEnd.{rowEnd};
+ghost use Rattle.rle_scanline_encoder.specs.RowEnd.{rowEnd};
 use crate::segment::encode_segment;
 use rle_format::Packed;
 
@@ -25,7 +25,7 @@ fn encode_row_end(codes: &[u8], start: usize, last: usize, dst: &mut [u8], at: u
 
 // Packs a row into dst from index `at` on. The raw values that wait are codes[start..last]; the value after them stands at `last`
 // and is repeated from there up to i. 3 or more repeats end a segment, fewer join the raw values.
-pub(crate) fn encode_scanline(codes: &[u8], dst: &mut [u8], at: usize) -> Packed
+pub(crate) fn encode_row(codes: &[u8], dst: &mut [u8], at: usize) -> Packed
     requires { ⌜ (0 < length (now codes)) × (at ≤ length (now dst)) ⌝ }
     ensures answer { λ r. ⌜ toldPacked r ≡ answerAt (rowSegments (now (codes .entry))) (now (dst .entry)) at ⌝ }
     ensures slice { λ _. ⌜ now (dst .exit) ≡ sliceAt (rowSegments (now (codes .entry))) (now (dst .entry)) at ⌝ }

@@ -1,7 +1,7 @@
 -- `run_capped`: all, or 15 of it. Assumes nothing.
 use native.Mathlib.Omega.{arith}
-use Rattle.rle_encoder.proofs.segment.run_capped.Statement.{statement}
-use Rattle.rle_encoder.proofs.segment.run_capped.Tie as tie
+use Rattle.rle_scanline_encoder.proofs.segment.run_capped.Statement.{statement}
+use Rattle.rle_scanline_encoder.proofs.segment.run_capped.Tie as tie
 
 returns : tie.Need-returns
 returns c = omega arith

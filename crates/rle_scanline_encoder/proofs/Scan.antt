@@ -11,7 +11,7 @@ use lib.ListN.{length, getD, take, drop, replicate, length-take, length-drop, le
 use lib.Seq.{drop-cons, drop-drop, take-add, take-suc, take-all, getD-take, getD-drop, ext-getD}
 use Rattle.rle_format.specs.Segment.{Segment}
 use Rattle.rle_format.specs.Pack.{segmentsOf, segmentsFrom, rowSegments}
-use Rattle.rle_encoder.specs.RowEnd.{rowEnd}
+use Rattle.rle_scanline_encoder.specs.RowEnd.{rowEnd}
 use Rattle.rle_format.proofs.Cases.{le-or-gt}
 use Rattle.rle_format.proofs.SegmentSteps.{from-same, from-ends, from-joins, from-closed-run, from-closed-raw}
 

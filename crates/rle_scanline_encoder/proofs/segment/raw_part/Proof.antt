@@ -1,7 +1,7 @@
 -- `raw_part`: all of it, or one byte. Assumes nothing.
 use native.Mathlib.Omega.{arith}
-use Rattle.rle_encoder.proofs.segment.raw_part.Statement.{statement}
-use Rattle.rle_encoder.proofs.segment.raw_part.Tie as tie
+use Rattle.rle_scanline_encoder.proofs.segment.raw_part.Statement.{statement}
+use Rattle.rle_scanline_encoder.proofs.segment.raw_part.Tie as tie
 
 returns : tie.Need-returns
 returns c = omega arith

@@ -8,8 +8,8 @@ use Rattle.rle_format.proofs.Slice.{putAt-none}
 use Rattle.rle_format.proofs.Writing.{control-long}
 use Rattle.rle_format.proofs.Head.{wrote-none, wrote-one}
 use borrow.Author.Needs.{needs}
-use Rattle.rle_encoder.proofs.segment.write_repeat.Statement.{statement}
-use Rattle.rle_encoder.proofs.segment.write_repeat.Tie as tie
+use Rattle.rle_scanline_encoder.proofs.segment.write_repeat.Statement.{statement}
+use Rattle.rle_scanline_encoder.proofs.segment.write_repeat.Tie as tie
 
 sub-if1 : tie.Need-sub-if1
 sub-if1 c = search needs

@@ -1,14 +1,14 @@
--- `encode_scanline`: the loop keeps that writing the segments of the rest of the scan, from here on, is writing the row's. Assumes nothing.
+-- `encode_row`: the loop keeps that writing the segments of the rest of the scan, from here on, is writing the row's. Assumes nothing.
 use Prim.Native.Nat.{_+_, _-_}
 use native.Mathlib.Omega.{arith}
 use borrow.Author.Needs.{needs}
 use lib.ListN.{length, take, drop}
 use Rattle.rle_format.specs.Pack.{segmentsOf, rowSegments}
-use Rattle.rle_encoder.specs.RowEnd.{rowEnd}
+use Rattle.rle_scanline_encoder.specs.RowEnd.{rowEnd}
 use Rattle.rle_format.proofs.Head.{WriteHead, head-first, head-rest, head-turn, head-stop, head-last}
-use Rattle.rle_encoder.proofs.Scan.{Scanned, scan, scan-begins, scan-same, scan-joins, scan-ends, scan-closes, scanned-begins, scanned-new, scanned-same}
-use Rattle.rle_encoder.proofs.row.encode_scanline.Statement.{statement}
-use Rattle.rle_encoder.proofs.row.encode_scanline.Tie as tie
+use Rattle.rle_scanline_encoder.proofs.Scan.{Scanned, scan, scan-begins, scan-same, scan-joins, scan-ends, scan-closes, scanned-begins, scanned-new, scanned-same}
+use Rattle.rle_scanline_encoder.proofs.row.encode_row.Statement.{statement}
+use Rattle.rle_scanline_encoder.proofs.row.encode_row.Tie as tie
 
 abbrev Inv-loop : tie.InvT-loop
 Inv-loop codes dst₀ at start₀ last₀ to₀ i₀ dst start last to i = Scanned codes start last i × WriteHead (rowSegments codes) (scan codes start last i) dst₀ dst at to
@@ -134,8 +134,8 @@ returns-2 c =
     head-last (head-rest (l .inv .1) (rowEnd codes (l .start) (l .last)) (scan-closes codes (l .start) (l .last) (l .i) (l .inv .0) (omega arith)))
     (call .last .1 .1 .1 .0) (call .result) (call .ensures)
 
-pub encode-scanline-spec : {M : Type 1} → statement M
-encode-scanline-spec =
+pub encode-row-spec : {M : Type 1} → statement M
+encode-row-spec =
     tie.close
     (tie.spec
     Inv-loop

@@ -7,23 +7,23 @@ use lib.ListN.{length, getD, take, drop}
 use Rattle.rle_format.specs.Pack.{literal, repeat, segmentsOf, longRun}
 use Rattle.rle_format.proofs.SegmentSteps.{longRun-none}
 use Rattle.rle_format.proofs.Head.{WriteHead, head-first, head-rest, head-turn, head-stop, head-last, head-done}
-use Rattle.rle_encoder.proofs.Steps.{long-turn, rest-left, segment-turn, segment-last}
+use Rattle.rle_scanline_encoder.proofs.Steps.{long-turn, rest-left, segment-turn, segment-last}
 use Prim.Native.Nat.{ℕ, _+_, _-_, _≤_, _<_}
 use borrow.Fn.Kinds.{In}
 use borrow.Fn.PlainCycle.{Measures, is, falls, and}
-use Rattle.rle_encoder.proofs.segment.encode_long_sequence.Reads as encode-long-sequence
-use Rattle.rle_encoder.proofs.segment.encode_long_sequence.Kinds as encode-long-sequence-kinds
-use Rattle.rle_encoder.proofs.segment.+encode_long_sequence+encode_segment.Lts-encode_long_sequence as encode-long-sequence-lts
-use Rattle.rle_encoder.proofs.segment.encode_segment.Reads as encode-segment
-use Rattle.rle_encoder.proofs.segment.encode_segment.Kinds as encode-segment-kinds
-use Rattle.rle_encoder.proofs.segment.+encode_long_sequence+encode_segment.Lts-encode_segment as encode-segment-lts
-use Rattle.rle_encoder.proofs.segment.next_part.Reads as next-part-reads
-use Rattle.rle_encoder.proofs.segment.raw_part.Reads as raw-part-reads
-use Rattle.rle_encoder.proofs.segment.run_capped.Reads as run-capped-reads
-use Rattle.rle_encoder.proofs.segment.write_literal.Reads as write-literal-reads
-use Rattle.rle_encoder.proofs.segment.write_repeat.Reads as write-repeat-reads
-use Rattle.rle_encoder.proofs.segment.+encode_long_sequence+encode_segment.{statement}
-use Rattle.rle_encoder.proofs.segment.+encode_long_sequence+encode_segment.Tie.{close}
+use Rattle.rle_scanline_encoder.proofs.segment.encode_long_sequence.Reads as encode-long-sequence
+use Rattle.rle_scanline_encoder.proofs.segment.encode_long_sequence.Kinds as encode-long-sequence-kinds
+use Rattle.rle_scanline_encoder.proofs.segment.+encode_long_sequence+encode_segment.Lts-encode_long_sequence as encode-long-sequence-lts
+use Rattle.rle_scanline_encoder.proofs.segment.encode_segment.Reads as encode-segment
+use Rattle.rle_scanline_encoder.proofs.segment.encode_segment.Kinds as encode-segment-kinds
+use Rattle.rle_scanline_encoder.proofs.segment.+encode_long_sequence+encode_segment.Lts-encode_segment as encode-segment-lts
+use Rattle.rle_scanline_encoder.proofs.segment.next_part.Reads as next-part-reads
+use Rattle.rle_scanline_encoder.proofs.segment.raw_part.Reads as raw-part-reads
+use Rattle.rle_scanline_encoder.proofs.segment.run_capped.Reads as run-capped-reads
+use Rattle.rle_scanline_encoder.proofs.segment.write_literal.Reads as write-literal-reads
+use Rattle.rle_scanline_encoder.proofs.segment.write_repeat.Reads as write-repeat-reads
+use Rattle.rle_scanline_encoder.proofs.segment.+encode_long_sequence+encode_segment.{statement}
+use Rattle.rle_scanline_encoder.proofs.segment.+encode_long_sequence+encode_segment.Tie.{close}
 
 abbrev μ-encode-long-sequence : Measures 1 encode-long-sequence-kinds.ps ℕ
 μ-encode-long-sequence κs a = a .0
