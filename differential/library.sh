@@ -4,13 +4,10 @@
 top=$(dirname "$here")
 if [ -z "${RDP6_LIBRARY:-}" ]; then
     RDP6_LIBRARY=$top/target/staticlib/librdp6.a
-    if [ ! -e "$RDP6_LIBRARY" ] ||
-        [ -n "$(find "$top/crates" "$top/crates.txt" \( -name '*.rt' -o -name '*.antt' -o -name crates.txt \) \
-            -newer "$RDP6_LIBRARY" -print -quit)" ]; then
-        if command -v rt >/dev/null; then
-            (cd "$top" && rt staticlib rdp6) >&2
-        fi
-    fi
+    "$top/scripts/make-library" || {
+        echo "RDP6_LIBRARY may name another library, which is then taken as it is." >&2
+        exit 1
+    }
 fi
 # Paths are meant from where the script was called; cargo runs elsewhere.
 RDP6_LIBRARY=$(realpath -m "$RDP6_LIBRARY")

@@ -8,6 +8,7 @@
 #include <stdlib.h>
 #include <string.h>
 
+#include "ppm.h"
 #include "rdp6.h"
 
 enum { WIDTH = 160, HEIGHT = 120, AREA = WIDTH * HEIGHT };
@@ -83,17 +84,6 @@ static void unpack(bool rle, bool alpha, size_t length)
     printf("  unpacked, with the same R, G and B\n");
 }
 
-static void write_ppm(const char *path)
-{
-    FILE *file = fopen(path, "wb");
-    bool written = file != NULL && fprintf(file, "P6\n%d %d\n255\n", WIDTH, HEIGHT) > 0 && fwrite(image, sizeof image, 1, file) == 1;
-    if (file == NULL || fclose(file) != 0 || !written) {
-        printf("%s cannot be written\n", path);
-        exit(1);
-    }
-    printf("%s written\n", path);
-}
-
 int main(int argc, char **argv)
 {
     draw();
@@ -104,6 +94,8 @@ int main(int argc, char **argv)
     length = counted(rdp6_encode_bitmap_alpha(pixels, sizeof pixels, body, sizeof body, false, WIDTH, HEIGHT));
     printf("A, R, G, B raw: %zu bytes\n", length);
     unpack(false, true, length);
-    write_ppm(argc > 1 ? argv[1] : "target/examples/round_trip.ppm");
+    const char *path = argc > 1 ? argv[1] : "target/examples/round_trip.ppm";
+    write_ppm(path, (struct picture){WIDTH, HEIGHT, image});
+    printf("%s written\n", path);
     return 0;
 }

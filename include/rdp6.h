@@ -6,10 +6,11 @@
  *
  * Slices. A slice is a pointer and its length in bytes. It is the caller's: it is lent for the call, and nothing is kept, freed or
  * allocated. A slice that is written must not overlap any other slice of the call. All of a slice's bytes must be readable, and
- * writable where the pointer is not const; its length is at most SSIZE_MAX. Where the length is 0 the pointer is not followed, and may
- * be NULL.
+ * writable where the pointer is not const; its length is at most PTRDIFF_MAX. Where the length is 0 the pointer is not followed, and may
+ * be NULL. Slices that are only read may overlap each other.
  *
- * Answers. A count of bytes, 0 or more; or minus the number of a refusal, and then nothing but what the refusal names is changed.
+ * Answers. An int64_t is a count of bytes, or minus the number of a refusal: below 0 it is a refusal, and then nothing but what that
+ * refusal names is changed.
  *
  * Threads. There is no state: any number of threads may call at once, each on its own slices.
  */
@@ -24,11 +25,14 @@
 extern "C" {
 #endif
 
+/* The largest width and the largest height. */
+#define RDP6_MAX_SIDE 8192
+
 /* The refusals. A function answers minus one of these; its comment says which it gives, and in which order it tests for them. */
 enum rdp6_refusal {
     RDP6_ZERO_SIZE = 1,                        /* the width or the height is 0 */
     RDP6_TOO_LARGE = 2,                        /* the width or the height is over 8192 */
-    RDP6_LOSS_LEVEL = 3,                       /* AYCoCg with a loss level of 0 or over 7 */
+    RDP6_LOSS_LEVEL = 3,                       /* AYCoCg with a loss level of 0 or over 7, or a definition that there is not */
     RDP6_INVALID_UNCOMPRESSED_DATA_SIZE = 4,   /* the body is shorter than its least size */
     RDP6_SHORT_WORK = 5,                       /* the work area is shorter than the three colour planes */
     RDP6_SHORT_IMAGE = 6,                      /* the image is shorter than 3 * width * height */
@@ -36,7 +40,7 @@ enum rdp6_refusal {
     RDP6_INVALID_SEGMENT_HEADER = 8,           /* a control byte is 0 */
     RDP6_SEGMENT_DO_NOT_FIT_SCANLINE = 9,      /* a segment passes the width */
     RDP6_SHORT_PLANE = 10,                     /* the destination is shorter than width * height */
-    RDP6_NOT_ENOUGH_BYTES = 11,                /* a sample source has fewer than width * height samples */
+    RDP6_NOT_ENOUGH_BYTES = 11,                /* a source has fewer than width * height samples, or whole pixels */
     RDP6_BUFFER_TOO_SMALL = 12                 /* what is to be written next does not fit */
 };
 
@@ -78,7 +82,7 @@ enum rdp6_definition {
 /*
  * Unpacks a picture (MS-RDPEGDI 2.2.2.5.1, 3.1.9.1) from its body, which is what follows the header byte, into the first
  * 3 * width * height bytes of image: R, G and B of each pixel, row by row from the top. Answers that number. The bytes of image and of
- * work behind what is written are untouched.
+ * work behind what is written are untouched. The header byte is the caller's to read; what it says goes into the first five parameters:
  *
  *   rle                 the planes are RLE planes, one after the other; else they are raw samples
  *   alpha               an alpha plane stands before the colour planes. It is not shown
@@ -94,8 +98,8 @@ enum rdp6_definition {
  *   work_len    RLE: width * height + 2 * chroma, which rdp6_work_size computes; raw: 0
  *   image_len   3 * width * height, which rdp6_image_size computes
  *
- * An RLE picture is unpacked by way of work, which then holds its three colour planes one after the other; the first overwrites alpha. A raw
- * picture does not touch work, which may be NULL and 0 then.
+ * An RLE picture is unpacked by way of work, which then holds its three colour planes one after the other; the first overwrites alpha.
+ * A raw picture does not touch work, which may be NULL and 0 then.
  *
  * Refusals, tested in this order. The image is unchanged by every one of them:
  *    1  width or height is 0                                          }
@@ -159,7 +163,7 @@ int64_t rdp6_encode_channels_stream_alpha(const uint8_t *r, size_t r_len, const 
  */
 int64_t rdp6_encode_bitmap(const uint8_t *src, size_t src_len, uint8_t *dst, size_t dst_len, bool rle, size_t width, size_t height);
 
-/* The same as rdp6_encode_channels_stream_alpha, from pixels: A is packed too. */
+/* The same as rdp6_encode_channels_stream_alpha, from such pixels: A is packed too. */
 int64_t rdp6_encode_bitmap_alpha(const uint8_t *src, size_t src_len, uint8_t *dst, size_t dst_len, bool rle, size_t width, size_t height);
 
 #ifdef __cplusplus

@@ -2,7 +2,6 @@
 mod color;
 mod image;
 mod planes;
-mod refusals;
 mod row;
 
 ghost use mathlib.Core.Path.{_≡_};
@@ -17,11 +16,11 @@ ghost use Rattle.bitmap_format.specs.Picture.{lossWrong, rlePicture, unpackPict
 use bitmap_format::BitmapStreamHeader;
 use bitmap_format::ColorPlaneDefinition;
 use bitmap_format::Decoded;
+use bitmap_refusals::first_refusal;
 use color::AYCoCgParams;
 use image::write_argb_planes_to_rgb24;
 use image::write_aycocg_planes_to_rgb24;
 use planes::decompress_planes;
-use refusals::first_refusal;
 use rle_format::Unpacked;
 
 // Writes the image of a picture, whose colour planes stand at the start of planes.

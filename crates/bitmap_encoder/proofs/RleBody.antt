@@ -3,51 +3,41 @@ use mathlib.Core.Path.{_≡_, refl, sym, ap, _∙_}
 use mathlib.Core.List.{List, [], _∷_, _++_, append-nil}
 use Prim.Native.Nat.{ℕ, _+_, _*_, _-_, _≤_}
 use native.Mathlib.Omega.{arith}
-use lib.ListN.{length, length-drop}
+use lib.ListN.{length}
 use Rattle.rle_format.specs.declared.Packed.{Packed}
 use Rattle.rle_format.specs.declared.Packed.the-variants.{Written, Refused}
 use Rattle.rle_format.specs.declared.Refusal.{Refusal}
-use Rattle.rle_format.specs.Answer.{Answer, counted, refused, Outcome, more, number, toldPacked}
-use Rattle.rle_format.specs.Slice.{over, putAt}
+use Rattle.rle_format.specs.Answer.{Outcome, toldPacked}
+use Rattle.rle_format.specs.Slice.{over}
 use Rattle.rle_format.specs.Segment.{Segment}
 use Rattle.rle_format.specs.Pack.{planeSegments, writeSegments, packPlane}
 use Rattle.rle_format.proofs.Outcome.{same-answer}
-use Rattle.rle_format.proofs.Writing.{write-counted}
 use Rattle.rle_format.proofs.Sides.{Within}
 use Rattle.rle_format.proofs.PackPlane.{pack-segments}
-use Rattle.rle_format.proofs.Slice.{tail, tail-is, put-back, lent-over}
-use Rattle.rle_format.specs.Written.{answerAt, sliceAt}
-use Rattle.rle_format.proofs.Head.{Wrote, WriteHead, head-rest, head-turn, head-stop, head-last}
+use Rattle.rle_format.proofs.Slice.{tail, put-back}
+use Rattle.rle_format.proofs.Head.{Wrote, WriteHead, head-rest, head-turn, head-stop, head-last, part-stops, part-fits, part-within}
 use Rattle.bitmap_format.specs.PackPicture.{pictureSegments}
 
--- a plane that was packed into the part of d from `at` on
+-- a plane that was packed into the part of d from `at` on: its segments were written there
 module _ (w h : ℕ) (s d ys : List ℕ) (at : ℕ) (r : Packed) (sides : Within w h) (long : w * h ≤ length s)
     (told : toldPacked r ≡ packPlane w h (length (tail d at)) s .answer) (left : ys ≡ over (tail d at) (packPlane w h (length (tail d at)) s .written)) where
-  room : length (tail d at) ≡ length d - at
-  room = ap length (tail-is d at) ∙ length-drop at d
+  packed : packPlane w h (length (tail d at)) s ≡ writeSegments (planeSegments w h s) (length (tail d at))
+  packed = pack-segments w h (length (tail d at)) s (sides .some-width) (sides .some-height) (sides .wide) (sides .high) long
 
-  packed : packPlane w h (length (tail d at)) s ≡ writeSegments (planeSegments w h s) (length d - at)
-  packed =
-      pack-segments w h (length (tail d at)) s (sides .some-width) (sides .some-height) (sides .wide) (sides .high) long
-      ∙ ap (writeSegments (planeSegments w h s)) room
+  told-segments : toldPacked r ≡ writeSegments (planeSegments w h s) (length (tail d at)) .answer
+  told-segments = told ∙ same-answer packed
 
-  pub slice-packed : put-back d at ys ≡ sliceAt (planeSegments w h s) d at
-  unfolding sliceAt
-  slice-packed = lent-over d ys (packPlane w h (length (tail d at)) s .written) at left ∙ ap (λ (o : Outcome). putAt d at (o .written)) packed
-
-  answered : (a : Answer) → toldPacked r ≡ a → more at a ≡ answerAt (planeSegments w h s) d at
-  unfolding answerAt
-  answered a e = ap (more at) (sym e ∙ told ∙ ap (λ (o : Outcome). o .answer) packed)
+  left-segments : ys ≡ over (tail d at) (writeSegments (planeSegments w h s) (length (tail d at)) .written)
+  left-segments = left ∙ ap (λ (o : Outcome). over (tail d at) (o .written)) packed
 
   pub plane-stops : (k : Refusal) → r ≡ Refused k → Wrote (planeSegments w h s) d (put-back d at ys) at r
-  plane-stops k e = (ap toldPacked e ∙ answered (refused (number k)) (ap toldPacked e), slice-packed)
+  plane-stops = part-stops (planeSegments w h s) d ys at r told-segments left-segments
 
   pub plane-fits : (n : ℕ) → r ≡ Written n → Wrote (planeSegments w h s) d (put-back d at ys) at (Written (at + n))
-  plane-fits n e = (answered (counted n) (ap toldPacked e), slice-packed)
+  plane-fits = part-fits (planeSegments w h s) d ys at r told-segments left-segments
 
-  -- its bytes lie within the part
   pub plane-within : (n : ℕ) → r ≡ Written n → n ≤ length d - at
-  plane-within n e = write-counted (planeSegments w h s) (length d - at) n (ap toldPacked (sym e) ∙ told ∙ same-answer packed)
+  plane-within = part-within (planeSegments w h s) d ys at r told-segments left-segments
 
 -- ---- planes one behind the other
 

@@ -73,9 +73,11 @@ module _ (l : Layout) (c : Channel) (s : List ℕ) where
 
   -- what was copied of them is what was asked for
   module _ (d now : List ℕ) (from n : ℕ) (all : n ≡ min (length (samplesOf l c s) - from) (length d)) where
-    pub planar-read : l ≡ Planar → now ≡ over d (take n (drop from s)) → now ≡ over d (take (length d) (drop from (samplesOf l c s)))
+    -- a slice of samples is lent as `&s[from..from + n]`
+    pub planar-read : l ≡ Planar → now ≡ over d (take (from + n - from) (drop from s)) → now ≡ over d (take (length d) (drop from (samplesOf l c s)))
     planar-read e is =
-        is ∙ ap (λ (t : List ℕ). over d (take n (drop from t))) (planar-are e) ∙ ap (over d) (some-left (samplesOf l c s) from n (length d) all)
+        let part : from + n - from ≡ n = omega arith in
+        is ∙ (λ i. over d (take (part i) (drop from (planar-are e i)))) ∙ ap (over d) (some-left (samplesOf l c s) from n (length d) all)
 
     pub bgra-read : (place : ℕ) → place ≡ placeOf bgrA c → l ≡ BgrA → now ≡ over d (take n (drop from (spaced 4 place (length s / 4) s)))
         → now ≡ over d (take (length d) (drop from (samplesOf l c s)))

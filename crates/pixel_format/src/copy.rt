@@ -1,6 +1,6 @@
-// The loops that copy samples.
+// What reading a channel goes by: its place in a pixel, how many samples, and the loop over pixels.
 ghost use mathlib.Core.Path.{_≡_};
-ghost use Prim.Native.Nat.{_+_, _*_, _≤_, _<_, _/_, min};
+ghost use Prim.Native.Nat.{_+_, _≤_, _<_, _/_, min};
 ghost use lib.ListN.{length, take, drop};
 ghost use Rattle.rle_format.specs.Slice.{over};
 ghost use Rattle.pixel_format.specs.Channel.{bgrA, placeOf, spaced};
@@ -24,18 +24,6 @@ pub(crate) fn least(a: usize, b: usize) -> usize
     ensures { λ r. ⌜ r ≡ min a b ⌝ }
 {
     if a < b { a } else { b }
-}
-
-// Copies n bytes, from byte `from` on, to the start of dst.
-pub(crate) fn copy_plane(src: &[u8], from: usize, n: usize, dst: &mut [u8])
-    requires { ⌜ (from + n ≤ length (now src)) × (n ≤ length (now dst)) ⌝ }
-    ensures { λ _. ⌜ now (dst .exit) ≡ over (now (dst .entry)) (take n (drop from (now (src .entry)))) ⌝ }
-{
-    let mut i = 0;
-    while i < n {
-        dst[i] = src[from + i];
-        i += 1;
-    }
 }
 
 // Copies the bytes at `place` of n pixels, from pixel `from` on, to the start of dst. The stride is a constant, so that the compiler can turn

@@ -8,7 +8,6 @@ ghost use Rattle.rle_format.specs.Slice.{over};
 ghost use Rattle.pixel_format.specs.declared.Channel.{Channel};
 ghost use Rattle.pixel_format.specs.Channel.{samplesOf};
 use copy::copy_channel;
-use copy::copy_plane;
 use copy::least;
 use copy::place_of;
 
@@ -60,7 +59,9 @@ pub fn read_samples(src: &[u8], layout: Layout, channel: Channel, from: usize, d
     }
     let n = least(count - from, dst.len());
     match layout {
-        Layout::Planar => copy_plane(src, from, n, dst),
+        Layout::Planar => {
+            bytes::copy(&src[from..from + n], dst);
+        }
         Layout::BgrA => copy_channel(src, place_of(channel), from, n, dst),
     }
 }

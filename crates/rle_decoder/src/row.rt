@@ -12,18 +12,6 @@ use crate::segment::decompress_next_segment;
 use rle_format::Refusal;
 use rle_format::Unpacked;
 
-// Copies the raw bytes to dst from index `at` on.
-fn copy_raw(raw: &[u8], dst: &mut [u8], at: usize)
-    requires { ⌜ at + length (now raw) ≤ length (now dst) ⌝ }
-    ensures { λ _. ⌜ now (dst .exit) ≡ putAt (now (dst .entry)) at (now (raw .entry)) ⌝ }
-{
-    let mut i = 0;
-    while i < raw.len() {
-        dst[at + i] = raw[i];
-        i += 1;
-    }
-}
-
 // Writes a value `run` times to dst from index `at` on.
 fn fill_run(dst: &mut [u8], at: usize, run: usize, value: u8)
     requires { ⌜ at + run ≤ length (now dst) ⌝ }
@@ -41,7 +29,7 @@ fn write_segment(raw: &[u8], run: usize, last: u8, dst: &mut [u8], column: usize
     requires { ⌜ column + (length (now raw) + run) ≤ length (now dst) ⌝ }
     ensures { λ _. ⌜ now (dst .exit) ≡ putAt (now (dst .entry)) column (now (raw .entry) ++ replicate run last) ⌝ }
 {
-    copy_raw(raw, dst, column);
+    bytes::copy(raw, &mut dst[column..]);
     fill_run(dst, column + raw.len(), run, last);
 }
 

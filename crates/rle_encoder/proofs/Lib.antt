@@ -1,4 +1,2 @@
 mod Replaced
-mod Steps
-mod Scan
 mod Rows

@@ -4,7 +4,7 @@ use mathlib.Core.List.{List, [], _++_, append-assoc, append-nil}
 use Prim.Native.Nat.{ℕ, zero, suc, _+_, _*_, _-_, _≤_, _<_}
 use native.Mathlib.Nat.{mul-comm, mul-le-mul-right}
 use native.Mathlib.Omega.{arith}
-use lib.ListN.{length, take, drop, length-append, length-drop, drop-of-length-le}
+use lib.ListN.{length, take, drop, length-append, length-drop}
 use lib.Seq.{take-at, length-take-le}
 use Rattle.rle_format.specs.declared.Packed.{Packed}
 use Rattle.rle_format.specs.Slice.{over}
@@ -12,6 +12,7 @@ use Rattle.rle_format.specs.Delta.{deltaCode, columns}
 use Rattle.rle_format.specs.Segment.{Segment}
 use Rattle.rle_format.specs.Pack.{rowSegments, rowAt, codesAt, planeSegments}
 use Rattle.rle_format.proofs.Delta.{length-columns}
+use Rattle.rle_format.proofs.Slice.{over-all}
 use Rattle.rle_encoder.specs.Coded.{coded}
 use Rattle.rle_format.specs.Written.{answerAt, sliceAt}
 use Rattle.rle_format.proofs.Head.{Wrote}
@@ -89,12 +90,10 @@ length-row width samples r h = length-take-le width (drop (r * width) samples) (
 -- samples that fill the places that they are read into
 row-read : (width : ℕ) (samples : List ℕ) (r : ℕ) (d got : List ℕ) → length d ≡ width → r * width + width ≤ length samples
     → got ≡ over d (take (length d) (drop (r * width) samples)) → got ≡ rowAt width samples r
-unfolding over rowAt
+unfolding rowAt
 row-read width samples r d got e h is =
     let row : List ℕ = rowAt width samples r in
-    let full : length d ≤ length row = omega (arith, length-row width samples r h) in
-    let none : drop (length row) d ≡ [] = drop-of-length-le d full in
-    is ∙ ap (λ (n : ℕ). over d (take n (drop (r * width) samples))) e ∙ ap (λ (l : List ℕ). row ++ l) none ∙ append-nil row
+    is ∙ ap (λ (n : ℕ). over d (take n (drop (r * width) samples))) e ∙ over-all d row (omega (arith, length-row width samples r h))
 
 pub coded-first : (r : ℕ) (above row : List ℕ) → r ≡ 0 → row ≡ coded r above row
 coded-first zero above row e = refl

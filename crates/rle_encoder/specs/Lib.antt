@@ -1,2 +1,1 @@
-pub mod RowEnd
 pub mod Coded

@@ -13,18 +13,6 @@ fn delta_value(prev: u8, next: u8) -> u8
     if d < 128 { 2 * d } else { 2 * (255 - d) + 1 }
 }
 
-// The first row is coded by value, so that its samples are its codes: they are only kept for the row below.
-fn keep_row(codes: &[u8], above: &mut [u8])
-    requires { ⌜ length (now above) ≡ length (now codes) ⌝ }
-    ensures { λ _. ⌜ now (above .exit) ≡ now (codes .entry) ⌝ }
-{
-    let mut i = 0;
-    while i < codes.len() {
-        above[i] = codes[i];
-        i += 1;
-    }
-}
-
 // A later row, by the row above. Each sample is kept where the one above it stood, which is not needed any more.
 fn delta_row(above: &mut [u8], codes: &mut [u8])
     requires { ⌜ length (now above) ≡ length (now codes) ⌝ }
@@ -41,14 +29,14 @@ fn delta_row(above: &mut [u8], codes: &mut [u8])
 }
 
 // `codes` has the samples of row r, and `above` those of the row above it, which the first row does not read. Then `codes` has the
-// row's coded values, and `above` its samples.
+// row's coded values, and `above` its samples. The first row is coded by value: its samples are its codes, and are only kept.
 pub(crate) fn code_scanline(r: usize, above: &mut [u8], codes: &mut [u8])
     requires { ⌜ length (now above) ≡ length (now codes) ⌝ }
     ensures codes { λ _. ⌜ now (codes .exit) ≡ coded r (now (above .entry)) (now (codes .entry)) ⌝ }
     ensures above { λ _. ⌜ now (above .exit) ≡ now (codes .entry) ⌝ }
 {
     if r == 0 {
-        keep_row(codes, above);
+        bytes::copy(codes, above);
     } else {
         delta_row(above, codes);
     }

@@ -1,14 +1,13 @@
 // Packs a plane of an RDP 6.0 picture (MS-RDPEGDI 3.1.9.2): the encoding half of the Rust's rdp6/rle.rs.
 mod delta;
-mod row;
-mod segment;
 
 ghost use mathlib.Core.Path.{_≡_};
 ghost use Prim.Native.Nat.{_*_, _≤_, _<_};
 ghost use lib.ListN.{length};
 ghost use Rattle.rle_format.specs.Answer.{toldPacked};
 ghost use Rattle.rle_format.specs.Slice.{over};
-ghost use Rattle.rle_format.specs.Pack.{planeSegments, writeSegments, packPlane};
+ghost use Rattle.rle_format.specs.Pack.{rowSegments, planeSegments, writeSegments, packPlane};
+ghost use Rattle.rle_format.specs.Written.{answerAt, sliceAt};
 ghost use Rattle.pixel_format.specs.Channel.{samplesOf};
 use delta::code_scanline;
 use pixel_format::Channel;
@@ -18,7 +17,20 @@ use pixel_format::sample_count;
 use rle_format::MAX_SIDE;
 use rle_format::Packed;
 use rle_format::Refusal;
-use row::encode_scanline;
+use rle_scanline_encoder::encode_scanline;
+
+// Packs a row into dst from index `at` on, and answers the index behind it.
+fn encode_next_row(codes: &[u8], dst: &mut [u8], at: usize) -> Packed
+    requires { ⌜ at ≤ length (now dst) ⌝ }
+    ensures answer { λ r. ⌜ toldPacked r ≡ answerAt (rowSegments (now (codes .entry))) (now (dst .entry)) at ⌝ }
+    ensures slice { λ _. ⌜ now (dst .exit) ≡ sliceAt (rowSegments (now (codes .entry))) (now (dst .entry)) at ⌝ }
+{
+    let answer = encode_scanline(codes, &mut dst[at..]);
+    let Packed::Written(bytes) = answer else {
+        return answer;
+    };
+    Packed::Written(at + bytes)
+}
 
 // Packs the rows of a channel from the top. Each row's samples are read once, wherever the layout has them, into a local array, and
 // nothing after that knows of layouts. The array then holds the row's coded values, and the other one its samples, for the row below.
@@ -41,7 +53,7 @@ fn encode(
     while r < height {
         read_samples(src, layout, channel, r * width, &mut codes[0..width]);
         code_scanline(r, &mut above[0..width], &mut codes[0..width]);
-        let answer = encode_scanline(&codes[0..width], dst, to);
+        let answer = encode_next_row(&codes[0..width], dst, to);
         let Packed::Written(next) = answer else {
             return answer;
         };

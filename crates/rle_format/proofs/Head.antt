@@ -5,7 +5,7 @@ use mathlib.Core.List.{List, [], _∷_, _++_, append-nil}
 use Prim.Native.Nat.{ℕ, _+_, _-_, _≤_, _<_}
 use native.Mathlib.Nat.{zero-add}
 use native.Mathlib.Omega.{arith}
-use lib.ListN.{length, set}
+use lib.ListN.{length, set, length-drop}
 use Rattle.rle_format.specs.declared.Refusal.{Refusal}
 use Rattle.rle_format.specs.declared.Refusal.the-variants.{BufferTooSmall}
 use Rattle.rle_format.specs.declared.Packed.{Packed}
@@ -15,8 +15,8 @@ use Rattle.rle_format.specs.Slice.{over, putAt}
 use Rattle.rle_format.specs.Segment.{Segment, size, control, bytes, allBytes}
 use Rattle.rle_format.specs.Pack.{writeSegments}
 use Rattle.rle_format.proofs.Cases.{le-or-gt}
-use Rattle.rle_format.proofs.Slice.{putAt-none, put-front, length-putAt, putAt-putAt, set-putAt}
-use Rattle.rle_format.proofs.Writing.{write-append, write-short, write-all, write-refused, write-within, write-full}
+use Rattle.rle_format.proofs.Slice.{putAt-none, put-front, length-putAt, putAt-putAt, set-putAt, tail, tail-is, put-back, lent-over}
+use Rattle.rle_format.proofs.Writing.{write-append, write-short, write-all, write-refused, write-within, write-full, write-counted}
 use Rattle.rle_format.specs.Written.{answerAt, sliceAt}
 
 -- ---- segments that all fit, and segments that do not
@@ -191,6 +191,31 @@ module _ (s : Segment) (d : List ℕ) (at : ℕ) where
             ∙ ap (putAt d at) (sym (append-nil (bytes s)))
             ∙ sym (slice-fits (s ∷ []) d at all),
       )
+
+-- ---- segments that a call wrote into the part of d from `at` on, which was lent to it and has come back as ys
+
+module _ (ss : List Segment) (d ys : List ℕ) (at : ℕ) (r : Packed) (told : toldPacked r ≡ writeSegments ss (length (tail d at)) .answer)
+    (left : ys ≡ over (tail d at) (writeSegments ss (length (tail d at)) .written)) where
+  part-room : length (tail d at) ≡ length d - at
+  part-room = ap length (tail-is d at) ∙ length-drop at d
+
+  part-slice : put-back d at ys ≡ sliceAt ss d at
+  unfolding sliceAt
+  part-slice = lent-over d ys (writeSegments ss (length (tail d at)) .written) at left ∙ ap (λ (n : ℕ). putAt d at (writeSegments ss n .written)) part-room
+
+  part-answer : (a : Answer) → toldPacked r ≡ a → more at a ≡ answerAt ss d at
+  unfolding answerAt
+  part-answer a e = ap (more at) (sym e ∙ told ∙ ap (λ (n : ℕ). writeSegments ss n .answer) part-room)
+
+  pub part-stops : (k : Refusal) → r ≡ Refused k → Wrote ss d (put-back d at ys) at r
+  part-stops k e = (ap toldPacked e ∙ part-answer (refused (number k)) (ap toldPacked e), part-slice)
+
+  pub part-fits : (n : ℕ) → r ≡ Written n → Wrote ss d (put-back d at ys) at (Written (at + n))
+  part-fits n e = (part-answer (counted n) (ap toldPacked e), part-slice)
+
+  -- its bytes lie within the part
+  pub part-within : (n : ℕ) → r ≡ Written n → n ≤ length d - at
+  part-within n e = write-counted ss (length d - at) n (ap toldPacked (sym e) ∙ told ∙ ap (λ (k : ℕ). writeSegments ss k .answer) part-room)
 
 -- ---- from the slice's first place on
 

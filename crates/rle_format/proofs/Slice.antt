@@ -17,6 +17,11 @@ pub over-none : (d : List ℕ) → over d [] ≡ d
 unfolding over
 over-none d = refl
 
+-- all places overwritten
+pub over-all : (d vs : List ℕ) → length d ≤ length vs → over d vs ≡ vs
+unfolding over
+over-all d vs h = ap (λ (l : List ℕ). vs ++ l) (drop-of-length-le d {i = length vs} h) ∙ append-nil vs
+
 module _ (d : List ℕ) (at : ℕ) (vs : List ℕ) (fits : at + length vs ≤ length d) where
   length-front : length (take at d ++ vs) ≡ at + length vs
   length-front = simp (length-append, length-take) (omega arith)
@@ -59,17 +64,12 @@ putAt-more d at vs v h =
     let room : at + length vs < length (putAt d at vs) = rw (length-putAt d at vs fits) h in
     set-putAt (putAt d at vs) (at + length vs) v room ∙ putAt-putAt d at vs fits (v ∷ [])
 
--- ---- turns of the loops that copy and that fill
+-- ---- what was copied, and a turn of the loop that fills
 
--- a turn of the copy of s. now is the slice at the loop's head
-pub copy-more : (d s now : List ℕ) (at j : ℕ) → now ≡ putAt d at (take j s) → at + j < length d → j < length s
-    → set now (at + j) (getD s j 0) ≡ putAt d at (take (j + 1) s)
-copy-more d s now at j e hd hs =
-    let n : length (take j s) ≡ j = simp length-take (omega arith) in
-    let room : at + length (take j s) < length d = rw n hd in
-    (λ i. set (e i) (at + sym n i) (getD s j 0))
-    ∙ putAt-more d at (take j s) (getD s j 0) room
-    ∙ ap (putAt d at) (sym (rw (add-one, take-suc s j 0 hs)))
+-- all of s copied to the first places, in the words of the kit's `bytes::copy`
+pub copied : (d s now : List ℕ) → now ≡ take (length s) s ++ drop (length s) d → now ≡ over d s
+unfolding over
+copied d s now e = e ∙ ap (λ (l : List ℕ). l ++ drop (length s) d) (take-all (length s) s (omega arith))
 
 -- a turn of the fill
 pub fill-more : (d now : List ℕ) (at v j : ℕ) → now ≡ putAt d at (replicate j v) → at + j < length d → set now (at + j) v ≡ putAt d at (replicate (j + 1) v)
@@ -145,12 +145,11 @@ lent-put d ys vs a k e =
 -- a part with an end, `&mut d[a..b]`, whose callee wrote all of it
 pub lent-part : (d ys vs : List ℕ) (a b : ℕ) → a ≤ b → b ≤ length d → length vs ≡ b - a → ys ≡ over (take (b - a) (drop a d)) vs
     → take a d ++ (ys ++ drop (b - a) (drop a d)) ≡ putAt d a vs
-unfolding putAt over
+unfolding putAt
 lent-part d ys vs a b h k n e =
     let left = length-drop a d in
     let part = length-take-le (b - a) (drop a d) (omega arith) in
-    let none : drop (length vs) (take (b - a) (drop a d)) ≡ [] = drop-of-length-le (take (b - a) (drop a d)) {i = length vs} (omega arith) in
-    let all : ys ≡ vs = e ∙ ap (λ (l : List ℕ). vs ++ l) none ∙ append-nil vs in
+    let all : ys ≡ vs = e ∙ over-all (take (b - a) (drop a d)) vs (omega arith) in
     let place : b - a ≡ length vs = sym n in
     ap (λ (l : List ℕ). take a d ++ (l ++ drop (b - a) (drop a d))) all
     ∙ ap (λ (l : List ℕ). take a d ++ (vs ++ l)) (ap (λ (k : ℕ). drop k (drop a d)) place ∙ drop-drop (length vs) a d)

@@ -1,8 +1,9 @@
--- `read_samples`: nothing where none are left, else the loop of the layout. Assumes nothing.
+-- `read_samples`: nothing where none are left, else the samples of the layout. Assumes nothing.
 use mathlib.Core.Path.{ap, _∙_}
 use native.Mathlib.Omega.{arith}
 use lib.ListN.{length}
 use Prim.Native.Nat.{ℕ, _-_, min}
+use Rattle.rle_format.proofs.Slice.{copied}
 use Rattle.pixel_format.specs.Channel.{samplesOf}
 use Rattle.pixel_format.proofs.Samples.{none-left, planar-count, planar-read, bgra-count, bgra-read}
 use borrow.Author.Needs.{needs}
@@ -26,13 +27,25 @@ least-requires c κs = search needs
 enum-told : tie.Need-enum-told
 enum-told c = search needs
 
-copy-plane-requires : tie.Need-copy-plane-requires
-copy-plane-requires c κs =
-    let a = c .before .before .before .before .before .before .before .before .args in
-    let n = c .before .before .before .before .before .sample-count .ensures (a .channel) in
-    let m = planar-count (a .layout) (a .channel) (a .src .now) (c .before .enum-told .given .1) in
-    let e = c .before .before .before .least .ensures in
-    (omega arith, omega arith)
+add-copy : tie.Need-add-copy
+add-copy c = search needs
+
+sub-copy : tie.Need-sub-copy
+sub-copy c = search needs
+
+part-copy-start : tie.Need-part-copy-start
+part-copy-start c = search needs
+
+part-copy-end : tie.Need-part-copy-end
+part-copy-end c =
+    let a = c .before .before .before .before .before .before .before .args in
+    let n = c .before .before .before .before .sample-count .ensures (a .channel) in
+    let m = planar-count (a .layout) (a .channel) (a .src .now) (c .enum-told .given .1) in
+    let e = c .before .before .least .ensures in
+    omega arith
+
+copy-requires : tie.Need-copy-requires
+copy-requires c κs = search needs
 
 enum-told-2 : tie.Need-enum-told-2
 enum-told-2 c = search needs
@@ -53,9 +66,11 @@ same-length c = search needs
 
 returns-2 : tie.Need-returns-2
 returns-2 c =
-    let a = c .before .before .before .before .before .before .before .before .before .before .before .args in
-    let n = c .before .before .before .before .before .before .before .before .sample-count .ensures (a .channel) in
-    planar-read (a .layout) (a .channel) (a .src .now) (a .dst .now) _ (a .from) (c .before .before .before .before .before .before .least .result) (c .before .before .before .before .before .before .least .ensures ∙ ap (λ (k : ℕ). min (k - a .from) (length (a .dst .now))) n) (c .before .before .before .before .enum-told .given .1) (c .before .before .copy-plane .ensures)
+    let a = c .before .before .before .before .before .before .before .before .before .before .before .before .args in
+    let l = c .before .before .before .before .before .before .before .least in
+    let n = c .before .before .before .before .before .before .before .before .before .sample-count .ensures (a .channel) in
+    planar-read (a .layout) (a .channel) (a .src .now) (a .dst .now) _ (a .from) (l .result) (l .ensures ∙ ap (λ (k : ℕ). min (k - a .from) (length (a .dst .now))) n) (c .before .before .before .before .before .enum-told .given .1)
+    (copied (a .dst .now) _ _ (c .before .before .copy .ensures .1))
 
 same-length-2 : tie.Need-same-length-2
 same-length-2 c = search needs
@@ -75,7 +90,11 @@ read-samples-spec =
     sub-least
     least-requires
     enum-told
-    copy-plane-requires
+    add-copy
+    sub-copy
+    part-copy-start
+    part-copy-end
+    copy-requires
     enum-told-2
     place-of-requires
     copy-channel-requires

@@ -92,17 +92,17 @@ part-codes-end-2 c =
 code-scanline-requires : tie.Need-code-scanline-requires Inv-loop μ-loop
 code-scanline-requires c κs = search needs
 
-sub-encode-scanline : tie.Need-sub-encode-scanline Inv-loop μ-loop
-sub-encode-scanline c = search needs
+sub-encode-next-row : tie.Need-sub-encode-next-row Inv-loop μ-loop
+sub-encode-next-row c = search needs
 
-part-encode-scanline-start : tie.Need-part-encode-scanline-start Inv-loop μ-loop
-part-encode-scanline-start c = search needs
+part-encode-next-row-start : tie.Need-part-encode-next-row-start Inv-loop μ-loop
+part-encode-next-row-start c = search needs
 
-part-encode-scanline-end : tie.Need-part-encode-scanline-end Inv-loop μ-loop
-part-encode-scanline-end c = omega (arith, row-is (c .before .before .before) .len-codes)
+part-encode-next-row-end : tie.Need-part-encode-next-row-end Inv-loop μ-loop
+part-encode-next-row-end c = omega (arith, row-is (c .before .before .before) .len-codes)
 
-encode-scanline-requires : tie.Need-encode-scanline-requires Inv-loop μ-loop
-encode-scanline-requires c κs = search needs
+encode-next-row-requires : tie.Need-encode-next-row-requires Inv-loop μ-loop
+encode-next-row-requires c κs = search needs
 
 enum-known-answer : tie.Need-enum-known-answer Inv-loop μ-loop
 enum-known-answer c = search needs
@@ -119,7 +119,7 @@ returns c =
     let a = c .before .before .before .before .before .before .before .before .before .before .before .before .before .before .before .before .before .before .before .before .args in
     let samples = samplesOf (a .layout) (a .channel) (a .src .now) in
     let row = row-is (c .before .before .before .before .before .before .before .before .before .before) in
-    let put = c .before .before .before .before .encode-scanline in
+    let put = c .before .before .before .before .encode-next-row in
     let wrote = row-wrote row (l .dst) (put .last .1 .0) (l .to) (put .result) (put .ensures) in
     wrote-from-0 (planeSegments (a .width) (a .height) samples) (a .dst .now) (put .last .1 .0) (put .result)
     (head-stop (l .inv .4) (rowSegments (codesAt (a .width) samples (l .r))) (rowsFrom (a .width) samples (l .r + 1) (a .height - (l .r + 1))) (put .last .1 .0) (put .result) (c .enum-told .given .0 .0)
@@ -137,7 +137,7 @@ loop-again c =
     let a = c .before .before .before .before .before .before .before .before .before .before .before .before .before .before .before .before .before .before .before .before .before .args in
     let samples = samplesOf (a .layout) (a .channel) (a .src .now) in
     let row = row-is (c .before .before .before .before .before .before .before .before .before .before .before) in
-    let put = c .before .before .before .before .before .encode-scanline in
+    let put = c .before .before .before .before .before .encode-next-row in
     let wrote = row-wrote row (l .dst) (put .last .1 .0) (l .to) (put .result) (put .ensures) in (
       omega arith,
       row .len-above,
@@ -177,10 +177,10 @@ encode-spec =
     part-codes-start-2
     part-codes-end-2
     code-scanline-requires
-    sub-encode-scanline
-    part-encode-scanline-start
-    part-encode-scanline-end
-    encode-scanline-requires
+    sub-encode-next-row
+    part-encode-next-row-start
+    part-encode-next-row-end
+    encode-next-row-requires
     enum-known-answer
     enum-told
     same-length

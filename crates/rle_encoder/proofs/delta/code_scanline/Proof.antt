@@ -1,12 +1,14 @@
 -- `code_scanline`: the first row as it is, a later one by the row above. Assumes nothing.
 use mathlib.Core.Path.{_∙_}
+use native.Mathlib.Omega.{arith}
+use Rattle.rle_format.proofs.Slice.{over-all, copied}
 use borrow.Author.Needs.{needs}
 use Rattle.rle_encoder.proofs.Rows.{coded-first, coded-later}
 use Rattle.rle_encoder.proofs.delta.code_scanline.Statement.{statement}
 use Rattle.rle_encoder.proofs.delta.code_scanline.Tie as tie
 
-keep-row-requires : tie.Need-keep-row-requires
-keep-row-requires c κs = search needs
+copy-requires : tie.Need-copy-requires
+copy-requires c κs = search needs
 
 delta-row-requires : tie.Need-delta-row-requires
 delta-row-requires c κs = search needs
@@ -20,7 +22,8 @@ same-length-2 c = search needs
 returns : tie.Need-returns
 returns c =
     let a = c .before .before .before .before .before .before .before .before .args in
-    (coded-first (a .r) (a .above .now) (a .codes .now) (c .before .before .before .before .before .if1 .taken), c .before .before .keep-row .ensures)
+    let kept = copied (a .above .now) (a .codes .now) _ (c .before .before .copy .ensures .1) ∙ over-all (a .above .now) (a .codes .now) (omega arith) in
+    (coded-first (a .r) (a .above .now) (a .codes .now) (c .before .before .before .before .before .if1 .taken), kept)
 
 same-length-3 : tie.Need-same-length-3
 same-length-3 c = search needs
@@ -38,7 +41,7 @@ pub code-scanline-spec : {M : Type 1} → statement M
 code-scanline-spec =
     tie.close
     (tie.spec
-    keep-row-requires
+    copy-requires
     delta-row-requires
     same-length
     same-length-2

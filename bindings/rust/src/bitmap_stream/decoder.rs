@@ -1,0 +1,198 @@
+//! Unpacking a picture.
+
+use std::fmt;
+
+use crate::ffi;
+use crate::header::Definition;
+use crate::{BitmapStreamHeader, Refusal};
+
+/// The name of the original's error. Here a refusal of [`decode`] or of [`BitmapStreamDecoder`]: 1 to 9.
+pub type BitmapDecodeError = Refusal;
+
+/// Unpacks a picture from its body, which is what follows the header byte, into the first 3 × `width` × `height` bytes of `image`: R, G and
+/// B of each pixel, row by row from the top. Answers that number. Nothing is allocated.
+///
+/// An RLE picture is unpacked by way of `work`, which then holds its three colour planes one after the other; [`work_size`] says how many
+/// bytes that takes. A raw picture does not touch `work`, which may be empty. The bytes of both slices behind what is written are
+/// untouched, and so are those of `body` that follow its last plane.
+///
+/// ```
+/// use rdp6::{BitmapStreamHeader, ColorPlaneDefinition};
+///
+/// let header = BitmapStreamHeader {
+///     enable_rle_compression: true,
+///     use_alpha: true,
+///     color_plane_definition: ColorPlaneDefinition::AYCoCg { color_loss_level: 1, use_chroma_subsampling: false },
+/// };
+/// // A plane of one sample each: alpha, Y, Co and Cg.
+/// let body = [0x10, 0xFF, 0x10, 100, 0x10, 10, 0x10, 20];
+/// let mut work = vec![0; rdp6::work_size(header, 1, 1)];
+/// let mut image = vec![0; rdp6::image_size(1, 1)];
+/// assert_eq!(rdp6::decode(header, &body, &mut work, &mut image, 1, 1), Ok(3));
+/// assert_eq!(image, [90, 120, 70]);
+/// ```
+///
+/// # Errors
+///
+/// In the order in which they are tested. The image is unchanged by every one of them:
+///
+/// | Number | Given exactly if | `work` |
+/// |---|---|---|
+/// | 1 | `width` or `height` is 0 | unchanged |
+/// | 2 | `width` or `height` is over 8,192 | unchanged |
+/// | 3 | AYCoCg with loss level 0 or over 7 | unchanged |
+/// | 4 | `body` is shorter than its least size | unchanged |
+/// | 5 | `work` is shorter than [`work_size`] (RLE only) | unchanged |
+/// | 6 | `image` is shorter than [`image_size`] | unchanged |
+/// | 7 | a control byte or a raw byte is missing (RLE only) | the planes before are complete; the refused one is left as [`decompress_8bpp_plane`](crate::decompress_8bpp_plane) leaves it, and what it did not write still holds alpha, if that is flagged and it is the first colour plane, or what was there |
+/// | 8 | a control byte is 0 (RLE only) | the same |
+/// | 9 | a segment passes the width (RLE only) | the same |
+///
+/// The least size of a raw body is the sum of its planes. That of an RLE body is the sum over its planes of height × (width / 47
+/// rounded up).
+pub fn decode(
+    header: BitmapStreamHeader,
+    body: &[u8],
+    work: &mut [u8],
+    image: &mut [u8],
+    width: usize,
+    height: usize,
+) -> Result<usize, BitmapDecodeError> {
+    let definition = Definition::from(header.color_plane_definition);
+    // SAFETY: the three slices are lent for the call with their true lengths, and nothing keeps them; `work` and `image`, each a `&mut`,
+    // overlap no other.
+    let answer = unsafe {
+        ffi::rdp6_decode(
+            header.enable_rle_compression,
+            header.use_alpha,
+            definition.number,
+            definition.color_loss_level,
+            definition.chroma_subsampling,
+            body.as_ptr(),
+            body.len(),
+            work.as_mut_ptr(),
+            work.len(),
+            image.as_mut_ptr(),
+            image.len(),
+            width,
+            height,
+        )
+    };
+    ffi::told(answer)
+}
+
+/// The least length of the work area that [`decode`] asks for: the bytes of the three colour planes, or 0 if the picture is raw. It is
+/// 0 for sides that are refused, and does not look at the loss level.
+///
+/// ```
+/// use rdp6::{BitmapStreamHeader, ColorPlaneDefinition};
+///
+/// let color_plane_definition = ColorPlaneDefinition::AYCoCg { color_loss_level: 1, use_chroma_subsampling: true };
+/// let mut header = BitmapStreamHeader { enable_rle_compression: true, use_alpha: true, color_plane_definition };
+/// assert_eq!(rdp6::work_size(header, 3, 3), 9 + 2 * 4);
+/// header.enable_rle_compression = false;
+/// assert_eq!(rdp6::work_size(header, 3, 3), 0);
+/// ```
+pub fn work_size(header: BitmapStreamHeader, width: usize, height: usize) -> usize {
+    let definition = Definition::from(header.color_plane_definition);
+    // SAFETY: the function takes numbers alone.
+    unsafe {
+        ffi::rdp6_work_size(
+            header.enable_rle_compression,
+            definition.number,
+            definition.chroma_subsampling,
+            width,
+            height,
+        )
+    }
+}
+
+/// The least length of the image that [`decode`] asks for, 3 × `width` × `height`. It is 0 for sides that are refused, and 201,326,592
+/// at most.
+///
+/// ```
+/// assert_eq!(rdp6::image_size(640, 480), 921_600);
+/// assert_eq!(rdp6::image_size(8_193, 1), 0);
+/// ```
+pub fn image_size(width: usize, height: usize) -> usize {
+    // SAFETY: the function takes numbers alone.
+    unsafe { ffi::rdp6_image_size(width, height) }
+}
+
+/// A decoder of pictures that keeps its work area from picture to picture, so that it is allocated once for the largest.
+///
+/// [`decode`] is the same over slices of the caller's, without any allocation.
+#[derive(Default)]
+pub struct BitmapStreamDecoder {
+    planes_buffer: Vec<u8>,
+}
+
+/// The length of the work area and not its bytes, which are millions.
+impl fmt::Debug for BitmapStreamDecoder {
+    fn fmt(&self, f: &mut fmt::Formatter<'_>) -> fmt::Result {
+        let length = self.planes_buffer.len();
+        f.debug_struct("BitmapStreamDecoder").field("planes_buffer", &format_args!("{length} bytes")).finish()
+    }
+}
+
+impl BitmapStreamDecoder {
+    /// Unpacks a picture from its body and appends R, G and B of each pixel, row by row from the top, to `dst`.
+    ///
+    /// The original's `decode_bitmap_stream_to_rgb24` reads the header byte first; here the caller does, and passes what it says as
+    /// `header` and the bytes behind it as `body`. The Pad byte at the end of a raw stream may stay with the body or not.
+    ///
+    /// ```
+    /// use rdp6::{BitmapStreamDecoder, BitmapStreamHeader, ColorPlaneDefinition};
+    ///
+    /// let color_plane_definition = ColorPlaneDefinition::Argb;
+    /// let header = BitmapStreamHeader { enable_rle_compression: false, use_alpha: false, color_plane_definition };
+    /// let mut decoder = BitmapStreamDecoder::default();
+    /// let mut image = Vec::new();
+    /// decoder.decode_body_to_rgb24(header, &[1, 2, 3, 4, 5, 6], &mut image, 2, 1)?;
+    /// assert_eq!(image, [1, 3, 5, 2, 4, 6]);
+    /// # Ok::<(), rdp6::Refusal>(())
+    /// ```
+    ///
+    /// # Errors
+    ///
+    /// 1, 2, 3, 4, 7, 8 and 9, as [`decode`] has them and in its order; 5 and 6 never, since both areas are made as long as they must
+    /// be. `dst` holds what it held after every one of them. Nothing is allocated for a picture that gets one of the first four.
+    ///
+    /// # Aborts
+    ///
+    /// As every `Vec` does if there is no memory: the image has at most 201,326,592 bytes, and the work area no more.
+    pub fn decode_body_to_rgb24(
+        &mut self,
+        header: BitmapStreamHeader,
+        body: &[u8],
+        dst: &mut Vec<u8>,
+        image_width: usize,
+        image_height: usize,
+    ) -> Result<(), BitmapDecodeError> {
+        test_lengthless(header, body, image_width, image_height)?;
+        let work = self.work_area(work_size(header, image_width, image_height));
+        let start = dst.len();
+        dst.resize(start + image_size(image_width, image_height), 0);
+        let answer = decode(header, body, work, &mut dst[start..], image_width, image_height);
+        if answer.is_err() {
+            dst.truncate(start);
+        }
+        answer.map(|_| ())
+    }
+
+    /// Just so many bytes, whatever they hold.
+    fn work_area(&mut self, size: usize) -> &mut [u8] {
+        if self.planes_buffer.len() < size {
+            self.planes_buffer.resize(size, 0);
+        }
+        &mut self.planes_buffer[..size]
+    }
+}
+
+/// The tests before those of the work area and the image, 1 to 4. The library does them: with both areas empty no picture gets past 6.
+fn test_lengthless(header: BitmapStreamHeader, body: &[u8], width: usize, height: usize) -> Result<(), Refusal> {
+    match decode(header, body, &mut [], &mut [], width, height) {
+        Err(Refusal::ShortWork | Refusal::ShortImage) => Ok(()),
+        answer => answer.map(|_| ()),
+    }
+}

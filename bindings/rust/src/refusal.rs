@@ -1,0 +1,132 @@
+//! Why a call is refused.
+
+use std::error::Error;
+use std::fmt;
+
+/// Why a call is refused: one of twelve numbers, which are the values of the variants.
+///
+/// Each function says which it gives, in the order in which it tests for them, and what it leaves in the slices then. The names are
+/// those of the original's errors where it has one. Later versions may add numbers.
+///
+/// ```
+/// use rdp6::Refusal;
+///
+/// let mut plane = [0; 3];
+/// let refusal = rdp6::decompress_8bpp_plane(&[0x04], &mut plane, 3, 1).unwrap_err();
+/// assert_eq!(refusal, Refusal::SegmentDoNotFitScanline);
+/// assert_eq!(refusal.number(), 9);
+/// assert_eq!(refusal.to_string(), "refusal 9: a segment passes the end of its row");
+/// ```
+#[derive(Clone, Copy, Debug, PartialEq, Eq, PartialOrd, Ord, Hash)]
+#[non_exhaustive]
+#[repr(u8)]
+pub enum Refusal {
+    /// The width or the height is 0.
+    ZeroSize = 1,
+    /// The width or the height is over 8,192.
+    TooLarge = 2,
+    /// AYCoCg with a loss level of 0 or over 7.
+    LossLevel = 3,
+    /// The body of a picture is shorter than its least size.
+    InvalidUncompressedDataSize = 4,
+    /// The work area is shorter than the three colour planes.
+    ShortWork = 5,
+    /// The image is shorter than 3 × width × height.
+    ShortImage = 6,
+    /// A control byte or a raw byte is missing.
+    ReadCompressedData = 7,
+    /// A control byte is 0.
+    InvalidSegmentHeader = 8,
+    /// A segment passes the width.
+    SegmentDoNotFitScanline = 9,
+    /// The destination is shorter than width × height.
+    ShortPlane = 10,
+    /// A source has fewer than width × height samples; a slice of pixels counts its whole pixels.
+    NotEnoughBytes = 11,
+    /// What is to be written next, a segment or a whole raw body, does not fit into the destination.
+    BufferTooSmall = 12,
+}
+
+const ALL: [Refusal; 12] = [
+    Refusal::ZeroSize,
+    Refusal::TooLarge,
+    Refusal::LossLevel,
+    Refusal::InvalidUncompressedDataSize,
+    Refusal::ShortWork,
+    Refusal::ShortImage,
+    Refusal::ReadCompressedData,
+    Refusal::InvalidSegmentHeader,
+    Refusal::SegmentDoNotFitScanline,
+    Refusal::ShortPlane,
+    Refusal::NotEnoughBytes,
+    Refusal::BufferTooSmall,
+];
+
+impl Refusal {
+    /// The number, 1 to 12, which is also what the C functions answer, with a minus.
+    pub const fn number(self) -> u8 {
+        self as u8
+    }
+
+    const fn text(self) -> &'static str {
+        match self {
+            Refusal::ZeroSize => "the width or the height is 0",
+            Refusal::TooLarge => "the width or the height is over 8192",
+            Refusal::LossLevel => "the loss level of AYCoCg is none of 1 to 7",
+            Refusal::InvalidUncompressedDataSize => "the body is shorter than such a picture can be",
+            Refusal::ShortWork => "the work area is shorter than the three colour planes",
+            Refusal::ShortImage => "the image is shorter than three bytes a pixel",
+            Refusal::ReadCompressedData => "a control byte or a raw byte is missing",
+            Refusal::InvalidSegmentHeader => "a control byte is 0",
+            Refusal::SegmentDoNotFitScanline => "a segment passes the end of its row",
+            Refusal::ShortPlane => "the destination is shorter than the plane",
+            Refusal::NotEnoughBytes => "a source has fewer samples than the plane",
+            Refusal::BufferTooSmall => "what is to be written next does not fit into the destination",
+        }
+    }
+}
+
+impl fmt::Display for Refusal {
+    fn fmt(&self, f: &mut fmt::Formatter<'_>) -> fmt::Result {
+        write!(f, "refusal {}: {}", self.number(), self.text())
+    }
+}
+
+impl Error for Refusal {}
+
+impl From<Refusal> for u8 {
+    fn from(refusal: Refusal) -> u8 {
+        refusal.number()
+    }
+}
+
+/// From the number, for one that was stored or sent.
+///
+/// ```
+/// use rdp6::Refusal;
+///
+/// assert_eq!(Refusal::try_from(7), Ok(Refusal::ReadCompressedData));
+/// assert!(Refusal::try_from(13).is_err());
+/// ```
+impl TryFrom<u8> for Refusal {
+    type Error = UnknownNumber;
+
+    fn try_from(number: u8) -> Result<Refusal, UnknownNumber> {
+        ALL.into_iter().find(|refusal| refusal.number() == number).ok_or(UnknownNumber(number))
+    }
+}
+
+/// A number that no refusal has.
+#[derive(Clone, Copy, Debug, PartialEq, Eq)]
+pub struct UnknownNumber(
+    /// The number.
+    pub u8,
+);
+
+impl fmt::Display for UnknownNumber {
+    fn fmt(&self, f: &mut fmt::Formatter<'_>) -> fmt::Result {
+        write!(f, "there is no refusal {}", self.0)
+    }
+}
+
+impl Error for UnknownNumber {}

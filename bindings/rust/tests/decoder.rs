@@ -1,0 +1,134 @@
+//! `BitmapStreamDecoder`: what it appends, what it leaves alone, what it allocates. What is expected is written from document 01.
+
+mod support;
+
+use rdp6::{BitmapStreamDecoder, BitmapStreamHeader, Refusal};
+use support::{argb, aycocg, first, hex, Noise, REFUSED_SIDES};
+
+/// Unpacks onto bytes that are there already.
+fn unpack(
+    decoder: &mut BitmapStreamDecoder,
+    header: BitmapStreamHeader,
+    body: &str,
+    sides: (usize, usize),
+) -> (Result<(), Refusal>, Vec<u8>) {
+    let mut dst = hex("AA BB");
+    let answer = decoder.decode_body_to_rgb24(header, &hex(body), &mut dst, sides.0, sides.1);
+    (answer, dst)
+}
+
+#[test]
+fn images_are_appended() {
+    let mut decoder = BitmapStreamDecoder::default();
+    let mut dst = hex("AA");
+    decoder.decode_body_to_rgb24(argb(false, false), &[1, 2, 3], &mut dst, 1, 1).unwrap();
+    decoder.decode_body_to_rgb24(argb(true, false), &hex("10 04 10 05 10 06"), &mut dst, 1, 1).unwrap();
+    assert_eq!(dst, hex("AA 01 02 03 04 05 06"));
+}
+
+/// Examples 15 and 16, and a subsampled picture with its Pad byte.
+#[test]
+fn colours() {
+    let mut decoder = BitmapStreamDecoder::default();
+    let mut check = |header, body: &str, sides, image: &str| {
+        assert_eq!(unpack(&mut decoder, header, body, sides), (Ok(()), hex(&format!("AA BB {image}"))), "{body}");
+    };
+    check(aycocg(false, true, 1, false), "FF 64 0A 14", (1, 1), "5A 78 46");
+    check(aycocg(true, true, 1, true), "10 FF 10 64 10 0A 10 14", (1, 1), "5A 78 46");
+    check(aycocg(true, false, 1, false), "10 64 10 0A 10 14", (1, 1), "46 78 5A");
+    check(aycocg(false, true, 2, false), "FF 64 40 00 00", (1, 1), "00 64 E4");
+    check(aycocg(false, true, 1, true), "FF*4 64*4 01 00 00", (2, 2), "65 64 63 65 64 63 65 64 63 65 64 63");
+}
+
+/// A larger picture before, a smaller one and a refused one change nothing for the next.
+#[test]
+fn the_work_area_is_kept() {
+    let mut decoder = BitmapStreamDecoder::default();
+    let mut noise = Noise(0x2545_F491_4F6C_DD1D);
+    for _ in 0..100 {
+        let (width, height) = (1 + noise.below(60) as usize, 1 + noise.below(5) as usize);
+        let planes = [(); 3].map(|_| noise.samples(width * height));
+        let mut body = Vec::new();
+        for plane in &planes {
+            let mut packed = vec![0; 2 * width * height];
+            let n = rdp6::compress_8bpp_plane(plane, &mut packed, width, height).unwrap();
+            body.extend(&packed[..n]);
+        }
+        let mut dst = Vec::new();
+        let cut = decoder.decode_body_to_rgb24(argb(true, false), &body[..body.len() - 1], &mut dst, width, height);
+        assert!(matches!(cut, Err(Refusal::ReadCompressedData | Refusal::InvalidUncompressedDataSize)));
+        assert!(dst.is_empty());
+        decoder.decode_body_to_rgb24(argb(true, false), &body, &mut dst, width, height).unwrap();
+        let rgb: Vec<u8> = (0..width * height).flat_map(|i| [planes[0][i], planes[1][i], planes[2][i]]).collect();
+        assert_eq!(dst, rgb);
+    }
+}
+
+#[test]
+fn sides_are_tested_before_all_others() {
+    let mut decoder = BitmapStreamDecoder::default();
+    for (width, height, refusal) in REFUSED_SIDES {
+        for header in [argb(true, false), argb(false, true), aycocg(true, false, 0, true)] {
+            for body in ["-", "00*9", "10 01 10 01 10 01"] {
+                assert_eq!(unpack(&mut decoder, header, body, (width, height)), (Err(refusal), hex("AA BB")));
+            }
+        }
+    }
+}
+
+/// Of a level, a body's length and its bytes that are wrong at once the first is answered; the destination is as it was.
+#[test]
+fn tests_come_in_order() {
+    let mut decoder = BitmapStreamDecoder::default();
+    for level in [1, 7, 0, 8, 255] {
+        for (body, short, damage) in [
+            ("10 64 10 0A 10 14", false, None),
+            ("10 64", true, None),
+            ("00 00", true, None),
+            ("10 64 00", false, Some(Refusal::InvalidSegmentHeader)),
+            ("10 64 10 0A 10", false, Some(Refusal::ReadCompressedData)),
+            ("10 64 20 0A 0A", false, Some(Refusal::SegmentDoNotFitScanline)),
+        ] {
+            let expected = first([
+                (!(1..=7).contains(&level), Refusal::LossLevel),
+                (short, Refusal::InvalidUncompressedDataSize),
+                (damage.is_some(), damage.unwrap_or(Refusal::ZeroSize)),
+            ]);
+            let (answer, dst) = unpack(&mut decoder, aycocg(true, false, level, false), body, (1, 1));
+            assert_eq!(answer.err(), expected, "level {level}, {body}");
+            assert_eq!(dst[..2], hex("AA BB"));
+            assert_eq!(dst.len(), if expected.is_some() { 2 } else { 5 });
+        }
+    }
+}
+
+/// Refusals 1 to 4 allocate nothing: a stranger's sides cost no memory.
+#[test]
+fn refused_pictures_are_given_no_memory() {
+    let mut decoder = BitmapStreamDecoder::default();
+    let mut dst = Vec::new();
+    for (header, body, sides, refusal) in [
+        (argb(true, true), &[][..], (0, 1), Refusal::ZeroSize),
+        (argb(true, true), &[1; 9][..], (8193, 8192), Refusal::TooLarge),
+        (aycocg(true, false, 8, false), &[0xF2; 9000][..], (47, 3000), Refusal::LossLevel),
+        (argb(true, false), &[0xF2; 9000][..], (8192, 8192), Refusal::InvalidUncompressedDataSize),
+        (argb(false, false), &[0; 9000][..], (8192, 8192), Refusal::InvalidUncompressedDataSize),
+    ] {
+        assert_eq!(decoder.decode_body_to_rgb24(header, body, &mut dst, sides.0, sides.1), Err(refusal));
+        assert_eq!(dst.capacity(), 0);
+        assert_eq!(format!("{decoder:?}"), "BitmapStreamDecoder { planes_buffer: 0 bytes }");
+    }
+    // A raw picture has no work area either.
+    decoder.decode_body_to_rgb24(argb(false, false), &[1, 2, 3], &mut dst, 1, 1).unwrap();
+    assert_eq!(format!("{decoder:?}"), "BitmapStreamDecoder { planes_buffer: 0 bytes }");
+    decoder.decode_body_to_rgb24(aycocg(true, false, 1, true), &hex("0F 04 04"), &mut dst, 15, 1).unwrap_err();
+    assert_eq!(format!("{decoder:?}"), "BitmapStreamDecoder { planes_buffer: 31 bytes }");
+}
+
+/// A decoder may be handed to another thread.
+#[test]
+fn decoders_can_be_sent() {
+    let mut decoder = BitmapStreamDecoder::default();
+    let image = std::thread::spawn(move || unpack(&mut decoder, argb(false, false), "01 02 03", (1, 1)).1);
+    assert_eq!(image.join().unwrap(), hex("AA BB 01 02 03"));
+}

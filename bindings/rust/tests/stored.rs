@@ -1,0 +1,159 @@
+//! The stored cases of crates/vectors/data through the functions of this crate: most are the original's answers, the rest is written from
+//! document 01. docs/TESTS.md has what they are, differential/README.md what a line is.
+
+mod support;
+
+use std::fs;
+use std::path::Path;
+
+use rdp6::{
+    compress_8bpp_plane, decode, decompress_8bpp_plane, BgrAChannels, BitmapStreamDecoder, BitmapStreamEncoder,
+    Encoded, Refusal,
+};
+use support::{argb, aycocg, hex, Lent};
+
+/// The cases of a file, as fields.
+fn for_each_case(file: &str, mut check: impl FnMut(&[&str])) {
+    let path = Path::new(env!("CARGO_MANIFEST_DIR")).join("../../crates/vectors/data").join(file);
+    let text = fs::read_to_string(&path).unwrap_or_else(|why| {
+        panic!("{} cannot be read: {why}. This test needs the whole repository.", path.display())
+    });
+    let cases = text.lines().filter(|line| !line.starts_with('#') && !line.is_empty());
+    let mut count = 0;
+    for case in cases {
+        check(&case.split(' ').collect::<Vec<_>>());
+        count += 1;
+    }
+    assert!(count > 0, "{file} has no cases");
+}
+
+fn number(field: &str) -> usize {
+    field.parse().expect("a number")
+}
+
+fn flag(field: &str) -> bool {
+    field == "1"
+}
+
+/// A count, or minus the number of a refusal.
+fn answer(field: &str) -> Result<usize, Refusal> {
+    match field.strip_prefix('-') {
+        None => Ok(number(field)),
+        Some(refusal) => Err(Refusal::try_from(number(refusal) as u8).expect("a refusal")),
+    }
+}
+
+type Plane = fn(&[u8], &mut [u8], usize, usize) -> Result<usize, Refusal>;
+
+/// WIDTH HEIGHT ROOM ANSWER SOURCE AFTER
+fn check_plane(function: Plane, case: &[&str]) {
+    let mut dst = Lent::filled(0xEE, number(case[2]));
+    let told = function(&hex(case[4]), dst.lend(), number(case[0]), number(case[1]));
+    assert_eq!(told, answer(case[3]), "{case:?}");
+    assert_eq!(dst.after(), hex(case[5]), "{case:?}");
+}
+
+#[test]
+fn planes_unpacked() {
+    for file in ["plane-unpack.txt", "examples.txt", "refusals.txt"] {
+        for_each_case(file, |case| check_plane(decompress_8bpp_plane, case));
+    }
+}
+
+#[test]
+fn planes_packed() {
+    for file in ["plane-pack.txt", "examples-pack.txt", "refusals-pack.txt"] {
+        for_each_case(file, |case| check_plane(compress_8bpp_plane, case));
+    }
+}
+
+/// WIDTH HEIGHT END ROOM ANSWER SAMPLES AFTER: the samples are packed into 20,000 bytes `C7`, and the first END of these unpacked.
+#[test]
+fn round_trips_cut() {
+    for_each_case("demand-3.txt", |case| {
+        if case[4] == "-0" {
+            return; // an END over the 20,000, of which there is no slice
+        }
+        let (width, height, end) = (number(case[0]), number(case[1]), number(case[2]));
+        let mut packed = vec![0xC7; 20_000];
+        let mut dst = Lent::filled(0xEE, number(case[3]));
+        let told = compress_8bpp_plane(&hex(case[5]), &mut packed, width, height)
+            .and_then(|_| decompress_8bpp_plane(&packed[..end], dst.lend(), width, height));
+        assert_eq!(told, answer(case[4]), "{case:?}");
+        assert_eq!(dst.after(), hex(case[6]), "{case:?}");
+    });
+}
+
+/// WIDTH HEIGHT RLE ALPHA DEFINITION LEVEL SUBSAMPLED WORKROOM IMAGEROOM ANSWER BODY WORK-AFTER IMAGE-AFTER
+fn check_picture(decoder: &mut BitmapStreamDecoder, case: &[&str]) {
+    let (width, height, rle, alpha) = (number(case[0]), number(case[1]), flag(case[2]), flag(case[3]));
+    let header = match case[4] {
+        "0" => argb(rle, alpha),
+        "1" => aycocg(rle, alpha, number(case[5]) as u8, flag(case[6])),
+        _ => return, // a definition that only C can say
+    };
+    let (expected, body) = (answer(case[9]), hex(case[10]));
+    let (mut work, mut image) = (Lent::filled(0xEE, number(case[7])), Lent::filled(0xEE, number(case[8])));
+    assert_eq!(decode(header, &body, work.lend(), image.lend(), width, height), expected, "{case:?}");
+    assert_eq!(work.after(), hex(case[11]), "{case:?}");
+    assert_eq!(image.after(), hex(case[12]), "{case:?}");
+    // The decoder makes its own room, so that it gets past 5 and 6.
+    if !matches!(expected, Err(Refusal::ShortWork | Refusal::ShortImage)) {
+        let mut dst = vec![0x77];
+        let told = decoder.decode_body_to_rgb24(header, &body, &mut dst, width, height);
+        assert_eq!(told, expected.map(|_| ()), "{case:?}");
+        assert_eq!(dst[1..], hex(case[12])[..expected.unwrap_or(0)], "{case:?}");
+    }
+}
+
+#[test]
+fn pictures_unpacked() {
+    let mut decoder = BitmapStreamDecoder::default();
+    for file in ["picture-unpack.txt", "examples-picture.txt", "refusals-picture.txt"] {
+        for_each_case(file, |case| check_picture(&mut decoder, case));
+    }
+}
+
+/// What is expected of packing: ANSWER SENTRLE SENTALPHA SENTDEFINITION.
+fn encoded(fields: &[&str]) -> Result<Encoded, Refusal> {
+    assert_eq!(fields[3], "0", "the definition to send is ARGB");
+    answer(fields[0]).map(|bytes| Encoded { bytes, header: argb(flag(fields[1]), flag(fields[2])) })
+}
+
+/// WIDTH HEIGHT RLE ALPHA ROOM ANSWER SENTRLE SENTALPHA SENTDEFINITION R G B A AFTER
+#[test]
+fn channels_packed() {
+    for file in ["channels-pack.txt", "examples-channels.txt", "refusals-channels.txt"] {
+        for_each_case(file, |case| {
+            let mut encoder = BitmapStreamEncoder::new(number(case[0]), number(case[1]));
+            let (rle, mut dst) = (flag(case[2]), Lent::filled(0xEE, number(case[4])));
+            let (r, g, b) = (hex(case[9]), hex(case[10]), hex(case[11]));
+            let told = if flag(case[3]) {
+                encoder.encode_channels_stream_alpha((r, g, b, hex(case[12])), dst.lend(), rle)
+            } else {
+                encoder.encode_channels_stream((r, g, b), dst.lend(), rle)
+            };
+            assert_eq!(told, encoded(&case[5..9]), "{case:?}");
+            assert_eq!(dst.after(), hex(case[13]), "{case:?}");
+        });
+    }
+}
+
+/// WIDTH HEIGHT RLE ALPHA ROOM ANSWER SENTRLE SENTALPHA SENTDEFINITION PIXELS AFTER
+#[test]
+fn pixels_packed() {
+    for file in ["bitmap-pack.txt", "examples-bitmap.txt", "refusals-bitmap.txt"] {
+        for_each_case(file, |case| {
+            let mut encoder = BitmapStreamEncoder::new(number(case[0]), number(case[1]));
+            let (rle, mut dst) = (flag(case[2]), Lent::filled(0xEE, number(case[4])));
+            let pixels = hex(case[9]);
+            let told = if flag(case[3]) {
+                encoder.encode_bitmap_alpha::<BgrAChannels>(&pixels, dst.lend(), rle)
+            } else {
+                encoder.encode_bitmap::<BgrAChannels>(&pixels, dst.lend(), rle)
+            };
+            assert_eq!(told, encoded(&case[5..9]), "{case:?}");
+            assert_eq!(dst.after(), hex(case[10]), "{case:?}");
+        });
+    }
+}

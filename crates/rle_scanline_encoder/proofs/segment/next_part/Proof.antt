@@ -1,0 +1,13 @@
+-- `next_part`: all, or 47 of it. Assumes nothing.
+use native.Mathlib.Omega.{arith}
+use Rattle.rle_scanline_encoder.proofs.segment.next_part.Statement.{statement}
+use Rattle.rle_scanline_encoder.proofs.segment.next_part.Tie as tie
+
+returns : tie.Need-returns
+returns c = omega arith
+
+returns-2 : tie.Need-returns-2
+returns-2 c = omega arith
+
+pub next-part-spec : {M : Type 1} → statement M
+next-part-spec = tie.close (tie.spec returns returns-2)

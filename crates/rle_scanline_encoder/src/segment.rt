@@ -1,0 +1,121 @@
+// The segment writer and the long-run writer, which call each other. Each writes into dst from index `at` on, a whole segment or none
+// of it, and answers the index behind what was written, or refusal 12 at the first segment that does not fit.
+ghost use mathlib.Core.Path.{_≡_};
+ghost use mathlib.Core.List.{[], _∷_};
+ghost use Prim.Native.Nat.{_≤_, _<_, min};
+ghost use lib.ListN.{length};
+ghost use Rattle.rle_format.specs.Answer.{toldPacked};
+ghost use Rattle.rle_format.specs.Pack.{literal, repeat, segmentsOf, longRun};
+ghost use Rattle.rle_format.specs.Written.{answerAt, sliceAt};
+use rle_format::Packed;
+use rle_format::Refusal;
+
+// The longest run in one control byte.
+const MAX_DECODED_SEGMENT_SIZE: usize = 47;
+
+// One segment of up to 15 raw bytes and a run of up to 15.
+fn write_literal(raw: &[u8], run: usize, dst: &mut [u8], at: usize) -> Packed
+    requires { ⌜ (length (now raw) ≤ 15) × (run ≤ 15) × (at ≤ length (now dst)) ⌝ }
+    ensures answer { λ r. ⌜ toldPacked r ≡ answerAt (literal (now (raw .entry)) run ∷ []) (now (dst .entry)) at ⌝ }
+    ensures slice { λ _. ⌜ now (dst .exit) ≡ sliceAt (literal (now (raw .entry)) run ∷ []) (now (dst .entry)) at ⌝ }
+{
+    let raw_len = raw.len();
+    if dst.len() - at < raw_len + 1 {
+        return Packed::Refused(Refusal::BufferTooSmall);
+    }
+    dst[at] = (16 * raw_len + run) as u8;
+    bytes::copy(raw, &mut dst[at + 1..]);
+    Packed::Written(at + 1 + raw_len)
+}
+
+// One long run of 16 to 47, a control byte alone.
+fn write_repeat(run: usize, dst: &mut [u8], at: usize) -> Packed
+    requires { ⌜ (16 ≤ run) × (run ≤ 47) × (at ≤ length (now dst)) ⌝ }
+    ensures answer { λ r. ⌜ toldPacked r ≡ answerAt (repeat run ∷ []) (now (dst .entry)) at ⌝ }
+    ensures slice { λ _. ⌜ now (dst .exit) ≡ sliceAt (repeat run ∷ []) (now (dst .entry)) at ⌝ }
+{
+    if dst.len() - at < 1 {
+        return Packed::Refused(Refusal::BufferTooSmall);
+    }
+    dst[at] = (16 * (run % 16) + run / 16) as u8;
+    Packed::Written(at + 1)
+}
+
+// What goes out of a long run in one control byte.
+fn next_part(left: usize) -> usize
+    ensures { λ r. ⌜ r ≡ min left 47 ⌝ }
+{
+    if left < MAX_DECODED_SEGMENT_SIZE {
+        left
+    } else {
+        MAX_DECODED_SEGMENT_SIZE
+    }
+}
+
+// How many raw bytes the rest of a long run, 1 to 15, begins with: 1 to 3 go raw, 4 to 15 as one raw byte and a run.
+fn raw_part(left: usize) -> usize
+    requires { ⌜ 0 < left ⌝ }
+    ensures few { λ r. ⌜ (0 < r) × (r ≤ 3) × (r ≤ left) ⌝ }
+    ensures part { λ r. ⌜ (left < 4 → r ≡ left) × (4 ≤ left → r ≡ 1) ⌝ }
+{
+    if left < 4 { left } else { 1 }
+}
+
+// What goes out of a run with the raw bytes before it.
+fn run_capped(run: usize) -> usize
+    ensures { λ r. ⌜ r ≡ min run 15 ⌝ }
+{
+    if run < 15 { run } else { 15 }
+}
+
+// The segment writer. While more than 15 raw bytes wait, 15 go out with run 0; the last 1 to 15 go with the run, at most 15 of it,
+// and the long-run writer has what is left of the run.
+pub(crate) fn encode_segment(raw: &[u8], run: usize, dst: &mut [u8], at: usize) -> Packed
+    requires { ⌜ (0 < length (now raw)) × (at ≤ length (now dst)) ⌝ }
+    ensures answer { λ r. ⌜ toldPacked r ≡ answerAt (segmentsOf (now (raw .entry)) run) (now (dst .entry)) at ⌝ }
+    ensures slice { λ _. ⌜ now (dst .exit) ≡ sliceAt (segmentsOf (now (raw .entry)) run) (now (dst .entry)) at ⌝ }
+{
+    let mut start = 0;
+    let mut to = at;
+    while 15 < raw.len() - start {
+        let answer = write_literal(&raw[start..start + 15], 0, dst, to);
+        let Packed::Written(next) = answer else {
+            return answer;
+        };
+        to = next;
+        start += 15;
+    }
+    let answer = write_literal(&raw[start..], run_capped(run), dst, to);
+    let Packed::Written(next) = answer else {
+        return answer;
+    };
+    if run <= 15 {
+        return answer;
+    }
+    encode_long_sequence(run - 15, raw[raw.len() - 1], dst, next)
+}
+
+// The long-run writer. While 16 or more remain, at most 47 go out in one control byte; the segment writer has what is left.
+fn encode_long_sequence(run: usize, last: u8, dst: &mut [u8], at: usize) -> Packed
+    requires { ⌜ at ≤ length (now dst) ⌝ }
+    ensures answer { λ r. ⌜ toldPacked r ≡ answerAt (longRun last run) (now (dst .entry)) at ⌝ }
+    ensures slice { λ _. ⌜ now (dst .exit) ≡ sliceAt (longRun last run) (now (dst .entry)) at ⌝ }
+{
+    let mut left = run;
+    let mut to = at;
+    while 16 <= left {
+        let part = next_part(left);
+        let answer = write_repeat(part, dst, to);
+        let Packed::Written(next) = answer else {
+            return answer;
+        };
+        to = next;
+        left -= part;
+    }
+    if left == 0 {
+        return Packed::Written(to);
+    }
+    let raw = [last; 3];
+    let count = raw_part(left);
+    encode_segment(&raw[0..count], left - count, dst, to)
+}

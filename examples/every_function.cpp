@@ -1,0 +1,90 @@
+// Calls every function of the library from C++, on pictures small enough to be packed by hand, and sees that each answers what it must.
+#include <cstdio>
+#include <vector>
+
+#include "rdp6.h"
+
+namespace {
+
+typedef std::vector<uint8_t> Bytes;
+
+bool all_right = true;
+
+void expect(const char *function, bool right)
+{
+    if (!right) {
+        std::printf("C++: %s does not answer what it must\n", function);
+        all_right = false;
+    }
+}
+
+Bytes bytes(const uint8_t *first, size_t count)
+{
+    return Bytes(first, first + count);
+}
+
+// Whether so many bytes were written to the front of a slice filled with EE, and none behind them.
+bool is_written(int64_t answer, const Bytes &slice, const Bytes &expected)
+{
+    Bytes whole(expected);
+    whole.resize(slice.size(), 0xEE);
+    return answer == static_cast<int64_t>(expected.size()) && slice == whole;
+}
+
+void planes()
+{
+    const uint8_t samples[] = {7, 7, 7, 7}, packing[] = {0x13, 7};
+    Bytes packed(8, 0xEE), plane(5, 0xEE);
+    int64_t answer = rdp6_compress_8bpp_plane(samples, 4, &packed[0], packed.size(), 4, 1);
+    expect("rdp6_compress_8bpp_plane", is_written(answer, packed, bytes(packing, 2)));
+    answer = rdp6_decompress_8bpp_plane(packing, 2, &plane[0], plane.size(), 4, 1);
+    expect("rdp6_decompress_8bpp_plane", answer == 2 && is_written(4, plane, bytes(samples, 4)));
+    answer = rdp6_decompress_8bpp_plane(packing, 2, NULL, 0, 4, 1);
+    expect("rdp6_decompress_8bpp_plane", answer == -RDP6_SHORT_PLANE);
+}
+
+// One pixel, B 1, G 2, R 3, A 4.
+void packing()
+{
+    const uint8_t pixel[] = {1, 2, 3, 4}, *b = pixel, *g = pixel + 1, *r = pixel + 2, *a = pixel + 3;
+    const uint8_t raw[] = {3, 2, 1, 0}, raw_alpha[] = {4, 3, 2, 1, 0};
+    const uint8_t rle[] = {0x10, 3, 0x10, 2, 0x10, 1}, rle_alpha[] = {0x10, 4, 0x10, 3, 0x10, 2, 0x10, 1};
+    Bytes body(9, 0xEE);
+    int64_t answer = rdp6_encode_bitmap(pixel, 4, &body[0], body.size(), false, 1, 1);
+    expect("rdp6_encode_bitmap", is_written(answer, body, bytes(raw, 4)));
+    body.assign(9, 0xEE);
+    answer = rdp6_encode_bitmap_alpha(pixel, 4, &body[0], body.size(), true, 1, 1);
+    expect("rdp6_encode_bitmap_alpha", is_written(answer, body, bytes(rle_alpha, 8)));
+    body.assign(9, 0xEE);
+    answer = rdp6_encode_channels_stream(r, 1, g, 1, b, 1, &body[0], body.size(), true, 1, 1);
+    expect("rdp6_encode_channels_stream", is_written(answer, body, bytes(rle, 6)));
+    body.assign(9, 0xEE);
+    answer = rdp6_encode_channels_stream_alpha(r, 1, g, 1, b, 1, a, 1, &body[0], body.size(), false, 1, 1);
+    expect("rdp6_encode_channels_stream_alpha", is_written(answer, body, bytes(raw_alpha, 5)));
+}
+
+// Document 01's example 15, with alpha and without: Y 100, Co 10, Cg 20.
+void unpacking()
+{
+    const uint8_t body[] = {255, 100, 10, 20}, with_alpha[] = {90, 120, 70}, without[] = {70, 120, 90};
+    Bytes image(4, 0xEE);
+    int64_t answer = rdp6_decode(false, true, RDP6_AYCOCG, 1, false, body, 4, NULL, 0, &image[0], image.size(), 1, 1);
+    expect("rdp6_decode", is_written(answer, image, bytes(with_alpha, 3)));
+    image.assign(4, 0xEE);
+    answer = rdp6_decode(false, false, RDP6_AYCOCG, 1, false, body + 1, 3, NULL, 0, &image[0], image.size(), 1, 1);
+    expect("rdp6_decode", is_written(answer, image, bytes(without, 3)));
+    expect("rdp6_work_size", rdp6_work_size(true, RDP6_AYCOCG, true, 3, 2) == 6 + 2 + 2);
+    expect("rdp6_image_size", rdp6_image_size(3, 2) == 3 * 3 * 2);
+}
+
+} // namespace
+
+int main()
+{
+    planes();
+    packing();
+    unpacking();
+    if (all_right)
+        std::printf("C++: each of the 9 functions answers what it must\n");
+    return all_right ? 0 : 1;
+}

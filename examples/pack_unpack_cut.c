@@ -1,0 +1,185 @@
+/*
+ * Packs a picture and unpacks it again; then cuts what was packed in the middle, and shows what is left of it.
+ *
+ *   pack_unpack_cut [PICTURE.ppm [FOLDER]]
+ *
+ * The picture is examples/racking.ppm by default. The folder, by default target/examples, gets unpacked.ppm and cut.ppm. What a cut
+ * must leave is worked out from the picture and from the rules of a packing, never from what the unpacker says, and every byte is held
+ * to it. Where something differs the program says so and has status 1.
+ */
+#include <inttypes.h>
+
+#include "ppm.h"
+#include "rdp6.h"
+
+static size_t width, height, area;
+static struct picture picture; /* as read */
+static struct picture image;   /* as unpacked */
+static uint8_t *pixels;        /* B, G, R, A */
+static uint8_t *body;          /* what is packed: at most two bytes a sample */
+static uint8_t *work;          /* three planes */
+
+static void make_slices(void)
+{
+    width = picture.width;
+    height = picture.height;
+    area = width * height;
+    image = (struct picture){width, height, allocate(3 * area)};
+    pixels = allocate(4 * area);
+    body = allocate(6 * area);
+    work = allocate(3 * area);
+}
+
+static void write_image(const char *what, const char *folder, const char *name)
+{
+    char path[4096];
+    if (snprintf(path, sizeof path, "%s/%s", folder, name) >= (int)sizeof path)
+        fail("The path of the folder for %s is too long.", name);
+    write_ppm(path, image);
+    printf("%s: %s\n", what, path);
+}
+
+/* Packs the picture from its pixels, R, G and B as RLE planes, and answers how many bytes that makes. */
+static size_t pack_picture(void)
+{
+    for (size_t i = 0; i < area; i++) {
+        for (size_t channel = 0; channel < 3; channel++)
+            pixels[4 * i + channel] = picture.rgb[3 * i + 2 - channel];
+        pixels[4 * i + 3] = 255;
+    }
+    int64_t answer = rdp6_encode_bitmap(pixels, 4 * area, body, 6 * area, true, width, height);
+    if (answer < 0)
+        fail("DIFFERENT: packing the picture was refused, by %" PRId64 ".", -answer);
+    printf("Packed as RLE: %" PRId64 " bytes, %.1f %% of that\n", answer, 100.0 * (double)answer / (3.0 * (double)area));
+    return (size_t)answer;
+}
+
+static int64_t unpack_picture(size_t length)
+{
+    return rdp6_decode(true, false, RDP6_ARGB, 0, false, body, length, work, 3 * area, image.rgb, 3 * area, width, height);
+}
+
+static void unpack_whole(size_t length)
+{
+    int64_t answer = unpack_picture(length);
+    if (answer != (int64_t)(3 * area) || memcmp(image.rgb, picture.rgb, 3 * area) != 0)
+        fail("DIFFERENT: the picture did not come back as it was; the answer is %" PRId64 ".", answer);
+}
+
+/* A picture is shown whole or not at all. Two fillings of the image tell every byte that is written from one that is not. */
+static void unpack_half(size_t length)
+{
+    size_t half = length / 2, least = 3 * height * ((width + 46) / 47);
+    int64_t refusal = half < least ? RDP6_INVALID_UNCOMPRESSED_DATA_SIZE : RDP6_READ_COMPRESSED_DATA;
+    for (int fill = 0; fill <= 255; fill += 255) {
+        memset(image.rgb, fill, 3 * area);
+        int64_t answer = unpack_picture(half);
+        if (answer != -refusal)
+            fail("DIFFERENT: half of the packed picture must be refused by %" PRId64 "; the answer is %" PRId64 ".", refusal, answer);
+        for (size_t i = 0; i < 3 * area; i++)
+            if (image.rgb[i] != fill)
+                fail("DIFFERENT: refusal %" PRId64 " touched byte %zu of the image.", refusal, i);
+    }
+    printf("The packed picture cut in the middle, to %zu bytes: ", half);
+    printf("refusal %" PRId64 ", bytes are missing; the image is untouched\n", refusal);
+}
+
+/* Packs the first rows of a plane, and answers how many bytes that makes. They are the first bytes of the whole plane's packing. */
+static size_t pack_rows(const uint8_t *samples, size_t rows)
+{
+    if (rows == 0)
+        return 0;
+    int64_t answer = rdp6_compress_8bpp_plane(samples, rows * width, body, 2 * area, width, rows);
+    if (answer < 0)
+        fail("DIFFERENT: packing %zu rows of a plane was refused, by %" PRId64 ".", rows, -answer);
+    return (size_t)answer;
+}
+
+/* How many rows have all their bytes within the first ones of the plane's packing. */
+static size_t rows_within(const uint8_t *samples, size_t length)
+{
+    size_t least = 0, most = height;
+    while (least < most) {
+        size_t middle = most - (most - least) / 2;
+        if (pack_rows(samples, middle) <= length)
+            least = middle;
+        else
+            most = middle - 1;
+    }
+    return least;
+}
+
+/* How many values those segments stand for that lie whole within these bytes. */
+static size_t values_within(const uint8_t *bytes, size_t length)
+{
+    size_t values = 0, at = 0;
+    while (at < length) {
+        size_t raw = bytes[at] >> 4, run = bytes[at] & 15;
+        bool long_run = run == 1 || run == 2; /* then there are no raw bytes, and their number lengthens the run */
+        at += long_run ? 1 : 1 + raw;
+        if (at <= length)
+            values += raw + (long_run ? 16 * run : run);
+    }
+    return values;
+}
+
+/* What stands for a sample in a packing: itself in the first row, below it the difference from the sample above, as a code. */
+static uint8_t coded_value(const uint8_t *samples, size_t i)
+{
+    if (i < width)
+        return samples[i];
+    int difference = (uint8_t)(samples[i] - samples[i - width]);
+    return (uint8_t)(difference < 128 ? 2 * difference : 2 * (255 - difference) + 1);
+}
+
+/* Unpacks the first bytes of a plane's packing into a plane filled with one value: so many rows and values must come, and no more. */
+static void unpack_cut(const uint8_t *samples, size_t length, uint8_t *plane, uint8_t fill, size_t rows, size_t values)
+{
+    memset(plane, fill, area);
+    int64_t answer = rdp6_decompress_8bpp_plane(body, length, plane, area, width, height);
+    if (answer != -RDP6_READ_COMPRESSED_DATA)
+        fail("DIFFERENT: the first %zu bytes of a packed plane must be refused by 7; the answer is %" PRId64 ".", length, answer);
+    for (size_t i = 0; i < area; i++) {
+        uint8_t expected = i < rows * width ? samples[i] : i < rows * width + values ? coded_value(samples, i) : fill;
+        if (plane[i] != expected)
+            fail("DIFFERENT: in row %zu and column %zu of a cut plane is %d, and must be %d.", i / width, i % width, plane[i], expected);
+    }
+}
+
+/* Packs a channel as a plane, cuts the packing in the middle, and puts what is left into the image, on magenta. */
+static void cut_plane(size_t channel)
+{
+    static const uint8_t magenta[3] = {255, 0, 255};
+    uint8_t *samples = work, *plane = work + area;
+    for (size_t i = 0; i < area; i++)
+        samples[i] = picture.rgb[3 * i + channel];
+    size_t half = pack_rows(samples, height) / 2, rows = rows_within(samples, half), start = pack_rows(samples, rows);
+    size_t length = pack_rows(samples, height), values = values_within(body + start, half - start);
+    unpack_cut(samples, half, plane, (uint8_t)~magenta[channel], rows, values); /* a second filling, as above */
+    unpack_cut(samples, half, plane, magenta[channel], rows, values);
+    for (size_t i = 0; i < area; i++)
+        image.rgb[3 * i + channel] = plane[i];
+    printf("  %c, %zu of %zu bytes: refusal 7; %zu of %zu rows are as they were, the next has %zu coded values, the rest is untouched\n",
+           "RGB"[channel], half, length, rows, height, values);
+}
+
+int main(int argc, char **argv)
+{
+    const char *path = argc > 1 ? argv[1] : "examples/racking.ppm", *folder = argc > 2 ? argv[2] : "target/examples";
+    picture = read_ppm(path);
+    make_slices();
+    printf("%s: %zu x %zu pixels, %zu bytes of R, G and B\n", path, width, height, 3 * area);
+    size_t length = pack_picture();
+    unpack_whole(length);
+    write_image("Unpacked, every pixel as it was", folder, "unpacked.ppm");
+    unpack_half(length);
+    printf("Its planes, each packed alone and cut in the middle:\n");
+    for (size_t channel = 0; channel < 3; channel++)
+        cut_plane(channel);
+    write_image("What survives of them, on magenta", folder, "cut.ppm");
+    printf("Proved, of every input (README.md, \"What is proved\"):\n"
+           "  a picture is shown whole or not at all: no refusal touches the image;\n"
+           "  of a cut plane every row whose bytes are all there comes back as it was, and nothing behind the next row is touched;\n"
+           "  each call returns, and reads and writes nothing outside the slices that it is lent.\n");
+    return 0;
+}
