@@ -29,23 +29,23 @@ difference-fits a b ha hb = go (ltb a b) refl
 pub between-fits : (z : ℤ) (p m : ℕ) → Between z p m → p < 32768 → m ≤ 32768 → SFits w16 z
 between-fits z p m b hp hm = rw (b .is) (difference-fits (b .more) (b .less) (omega (arith, b .most)) (omega (arith, b .least)))
 
--- ---- clip_i16: low is what its first line leaves of v, both what its second line leaves of low
+-- ---- clip_i16: r and c are the bits of its locals `raised` and `clipped`
 
--- v, or 0 where v is below 0
+-- v, or 0 if v is less
 abbrev pub raised : ℤ → ℕ
 raised (pos n) = n
 raised (negsuc n) = 0
 
-module _ (v : ℤ) (f : SFits w16 v) (low : ℕ) where
-  pub raised-low : ltZ (held v) (pos 0) ≡ true → low ≡ 0 → toZ w16 low ≡ pos (raised v)
-  raised-low e is = ap (toZ w16) is ∙ go v (rw (toZ-ofZ f) at e)
+module _ (v : ℤ) (f : SFits w16 v) (r : ℕ) where
+  pub raised-up : ltZ (held v) (pos 0) ≡ true → r ≡ 0 → toZ w16 r ≡ pos (raised v)
+  raised-up e is = ap (toZ w16) is ∙ go v (rw (toZ-ofZ f) at e)
     where
       go : (v : ℤ) → ltZ v (pos 0) ≡ true → pos 0 ≡ pos (raised v)
       go (pos n) e = absurd (omega (arith, ltb-true n 0 e))
       go (negsuc n) e = refl
 
-  pub raised-same : ltZ (held v) (pos 0) ≡ false → low ≡ ofZ w16 v → toZ w16 low ≡ pos (raised v)
-  raised-same e is = ap (toZ w16) is ∙ toZ-ofZ f ∙ go v (rw (toZ-ofZ f) at e)
+  pub raised-not : ltZ (held v) (pos 0) ≡ false → r ≡ ofZ w16 v → toZ w16 r ≡ pos (raised v)
+  raised-not e is = ap (toZ w16) is ∙ toZ-ofZ f ∙ go v (rw (toZ-ofZ f) at e)
     where
       go : (v : ℤ) → ltZ v (pos 0) ≡ false → v ≡ pos (raised v)
       go (pos n) e = refl
@@ -56,17 +56,17 @@ unfolding clip
 clip-raised (pos n) = refl
 clip-raised (negsuc n) = refl
 
-module _ (v : ℤ) (low both : ℕ) (is : toZ w16 low ≡ pos (raised v)) where
-  pub clip-high : ltZ (pos 255) (toZ w16 low) ≡ true → both ≡ 255 → toZ w16 both ≡ pos (clip v)
+module _ (v : ℤ) (r c : ℕ) (is : toZ w16 r ≡ pos (raised v)) where
+  pub lowered : ltZ (pos 255) (toZ w16 r) ≡ true → c ≡ 255 → toZ w16 c ≡ pos (clip v)
   unfolding clip
-  clip-high e eb = ap (toZ w16) eb ∙ ap pos (go (raised v) (rw is at e) ∙ clip-raised v)
+  lowered e ec = ap (toZ w16) ec ∙ ap pos (go (raised v) (rw is at e) ∙ clip-raised v)
     where
       go : (n : ℕ) → ltb 255 n ≡ true → 255 ≡ clip (pos n)
       go n e = simp e
 
-  pub clip-within : ltZ (pos 255) (toZ w16 low) ≡ false → both ≡ low → toZ w16 both ≡ pos (clip v)
+  pub lowered-not : ltZ (pos 255) (toZ w16 r) ≡ false → c ≡ r → toZ w16 c ≡ pos (clip v)
   unfolding clip
-  clip-within e eb = ap (toZ w16) eb ∙ is ∙ ap pos (go (raised v) (rw is at e) ∙ clip-raised v)
+  lowered-not e ec = ap (toZ w16) ec ∙ is ∙ ap pos (go (raised v) (rw is at e) ∙ clip-raised v)
     where
       go : (n : ℕ) → ltb 255 n ≡ false → n ≡ clip (pos n)
       go n e = simp e
@@ -80,12 +80,8 @@ clip-most (pos n) = go (ltb 255 n) refl
     go true e = omega arith
     go false e = ltb-false 255 n e
 
-module _ (v : ℤ) (both : ℕ) (is : toZ w16 both ≡ pos (clip v)) where
-  pub clip-byte : T (nonNeg (toZ w16 both)) × Fits w8 (natAbs (toZ w16 both))
-  clip-byte = rw is (tt, record { fits = omega (arith, clip-most v) })
-
-  pub clip-same : natAbs (toZ w16 both) ≡ clip v
-  clip-same = ap natAbs is
+pub clip-byte : (v z : ℤ) → z ≡ pos (clip v) → T (nonNeg z) × Fits w8 (natAbs z)
+clip-byte v z is = rw is (tt, record { fits = omega (arith, clip-most v) })
 
 -- ---- chroma_value: sum is its wrapping sum
 

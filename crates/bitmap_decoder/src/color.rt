@@ -12,7 +12,7 @@ pub(crate) struct AYCoCgParams {
 }
 
 // A chroma byte at a loss level. The multiplication is that of a byte, so that its upper bits are lost before the sign is looked at.
-// The sign is read by adding 128 modulo 256 and taking it off again, which lets the loops over a row do without a test.
+// The sign is read by adding 128 modulo 256 and taking it off again, of which the loops over a row get a wide shift and no test.
 fn chroma_value(cll: u8, byte: u8) -> i16
     requires { ⌜ (1 ≤ cll) × (cll ≤ 7) ⌝ }
     ensures { λ r. ⌜ r ≡ chroma cll byte ⌝ }
@@ -21,7 +21,7 @@ fn chroma_value(cll: u8, byte: u8) -> i16
     std::num::wrapping_add_u8(scaled, 128) as i16 - 128
 }
 
-// One limit after the other, since each line then is a single operation on whole vectors in the loops over a row: a max, a min.
+// One limit after the other and then the cast: of these three the loops over a row get a single wide instruction.
 fn clip_i16(v: i16) -> u8
     ensures { λ r. ⌜ r ≡ clip v ⌝ }
 {
