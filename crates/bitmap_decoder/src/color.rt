@@ -12,27 +12,22 @@ pub(crate) struct AYCoCgParams {
 }
 
 // A chroma byte at a loss level. The multiplication is that of a byte, so that its upper bits are lost before the sign is looked at.
+// The sign is read by adding 128 modulo 256 and taking it off again, of which the loops over a row get a wide shift and no test.
 fn chroma_value(cll: u8, byte: u8) -> i16
     requires { ⌜ (1 ≤ cll) × (cll ≤ 7) ⌝ }
     ensures { λ r. ⌜ r ≡ chroma cll byte ⌝ }
 {
     let scaled = byte << (cll - 1);
-    if scaled < 128 {
-        return scaled as i16;
-    }
-    scaled as i16 - 256
+    std::num::wrapping_add_u8(scaled, 128) as i16 - 128
 }
 
+// One limit after the other and then the cast: of these three the loops over a row get a single wide instruction.
 fn clip_i16(v: i16) -> u8
     ensures { λ r. ⌜ r ≡ clip v ⌝ }
 {
-    if v < 0 {
-        return 0;
-    }
-    if 255 < v {
-        return 255;
-    }
-    v as u8
+    let raised = if v < 0 { 0 } else { v };
+    let clipped = if 255 < raised { 255 } else { raised };
+    clipped as u8
 }
 
 // The colour as the planes have it.

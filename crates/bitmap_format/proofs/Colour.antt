@@ -1,35 +1,40 @@
 -- What the colour rule makes of a chroma byte, as integers with bounds.
-use Prim.Native.Nat.{ℕ, _-_, _*_, _%_, _^_, _<_, _≤_}
+use Prim.Native.Nat.{ℕ, suc, _+_, _-_, _*_, _%_, _^_, _<_, _≤_}
 use mathlib.Core.Bool.{Bool, true, false}
-use mathlib.Core.Path.{_≡_, refl, ap}
+use mathlib.Core.Path.{_≡_, refl, sym, ap, _∙_}
 use native.Mathlib.Omega.{arith}
 use native.Mathlib.Nat.{mod-lt}
 use lib.Dec.{ltb}
-use lib.IntN.{pos, _-ℤ_}
-use borrow.Author.Tests.{lt-ltb, le-ltb}
+use lib.IntN.{pos, negsuc, subℕ, _-ℤ_}
+use borrow.Author.Tests.{ltb-true, ltb-false}
 use Rattle.rle_format.specs.Choice.{choose}
 use Rattle.bitmap_format.specs.Colour.{signedByte, chroma}
-use Rattle.bitmap_format.proofs.Integers.{Between, whole, difference}
+use Rattle.bitmap_format.proofs.Integers.{Between, difference, below, above}
 
-pub chroma-high : (level byte : ℕ) → 128 ≤ byte * 2 ^ (level - 1) % 256 → chroma level byte ≡ pos (byte * 2 ^ (level - 1) % 256) -ℤ pos 256
-unfolding chroma signedByte
-chroma-high level byte h =
-    ap (λ (t : Bool). choose t (pos (byte * 2 ^ (level - 1) % 256)) (pos (byte * 2 ^ (level - 1) % 256) -ℤ pos 256)) (le-ltb (byte * 2 ^ (level - 1) % 256) 128 h)
-
-pub chroma-low : (level byte : ℕ) → byte * 2 ^ (level - 1) % 256 < 128 → chroma level byte ≡ pos (byte * 2 ^ (level - 1) % 256)
-unfolding chroma signedByte
-chroma-low level byte h =
-    ap (λ (t : Bool). choose t (pos (byte * 2 ^ (level - 1) % 256)) (pos (byte * 2 ^ (level - 1) % 256) -ℤ pos 256)) (lt-ltb (byte * 2 ^ (level - 1) % 256) 128 h)
-
-signed-between : (b : ℕ) → b < 256 → Between (signedByte b) 255 256
+-- half of 256 added modulo 256, and taken off again
+signed-is : (b : ℕ) → b < 256 → signedByte b ≡ subℕ ((b + 128) % 256) 128
 unfolding signedByte
-signed-between b h = go (ltb b 128) refl
+signed-is b h = go (ltb b 128) refl
   where
-    go : (t : Bool) → ltb b 128 ≡ t → Between (choose t (pos b) (pos b -ℤ pos 256)) 255 256
-    go true e = record { more = b; less = 0; is = whole b; most = omega arith; least = omega arith }
-    go false e = record { more = b; less = 256; is = difference b 256; most = omega arith; least = omega arith }
+    go : (t : Bool) → ltb b 128 ≡ t → choose t (pos b) (pos b -ℤ pos 256) ≡ subℕ ((b + 128) % 256) 128
+    go true e =
+        let low : b < 128 = ltb-true b 128 e in
+        let n : b ≡ (b + 128) % 256 - 128 = omega arith in
+        ap pos n ∙ sym (above ((b + 128) % 256) 128 (omega arith))
+    go false e =
+        let high : 128 ≤ b = ltb-false b 128 e in
+        let n : 256 - suc b ≡ 128 - suc ((b + 128) % 256) = omega arith in
+        difference b 256 ∙ below b 256 h ∙ ap negsuc n ∙ sym (below ((b + 128) % 256) 128 (omega arith))
 
--- a chroma value is that of a byte
-pub chroma-between : (level byte : ℕ) → Between (chroma level byte) 255 256
+pub chroma-is : (level byte : ℕ) → chroma level byte ≡ subℕ ((byte * 2 ^ (level - 1) % 256 + 128) % 256) 128
 unfolding chroma
-chroma-between level byte = signed-between (byte * 2 ^ (level - 1) % 256) (mod-lt (byte * 2 ^ (level - 1)) (omega arith))
+chroma-is level byte = signed-is (byte * 2 ^ (level - 1) % 256) (mod-lt (byte * 2 ^ (level - 1)) (omega arith))
+
+pub chroma-between : (level byte : ℕ) → Between (chroma level byte) 255 128
+chroma-between level byte = record {
+  more = (byte * 2 ^ (level - 1) % 256 + 128) % 256;
+  less = 128;
+  is = chroma-is level byte;
+  most = omega arith;
+  least = omega arith;
+}
