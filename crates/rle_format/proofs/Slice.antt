@@ -260,12 +260,16 @@ put-copy d now s from at i to v e p h k is =
     ∙ ap (putAt d at) (sym (take-suc (drop from s) i 0 (omega arith)))
     ∙ ap (λ (m : ℕ). putAt d at (take m (drop from s))) (sym (add-one i))
 
--- likewise to the first places
-pub over-copy : (d now s : List ℕ) (from i v : ℕ) → now ≡ over d (take i (drop from s)) → from + i < length s → i < length d → v ≡ getD s (from + i) 0
-    → set now i v ≡ over d (take (i + 1) (drop from s))
-over-copy d now s from i v e h k is =
-    put-copy d now s from 0 i i v (e ∙ sym (put-front d (take i (drop from s)))) (omega arith) h (omega arith) is
-    ∙ put-front d (take (i + 1) (drop from s))
+-- so many more, behind those that were copied to the first places
+pub over-part : (d now next s : List ℕ) (from i k : ℕ) → from + i ≤ length s → now ≡ over d (take i (drop from s)) → next ≡ putAt now i (take k (drop (from + i) s))
+    → next ≡ over d (take (i + k) (drop from s))
+over-part d now next s from i k h e₁ e₂ =
+    let left = length-drop from s in
+    let n : length (take i (drop from s)) ≡ i = length-take-le i (drop from s) (omega arith) in
+    e₂
+    ∙ (λ j. putAt (e₁ j) i (take k (sym (drop-drop i from s) j)))
+    ∙ over-more d (take i (drop from s)) (take k (drop i (drop from s))) i n
+    ∙ ap (over d) (sym (take-add i k (drop from s)))
 
 -- four to index `at` on, which were all read before the first was written
 module _ (d s : List ℕ) (from at : ℕ) where

@@ -1,68 +1,63 @@
--- `copy_channel`: after i turns the samples of i pixels are copied. Assumes nothing.
-use mathlib.Core.Path.{_≡_, refl, sym, ap, _∙_}
-use Prim.Native.Nat.{ℕ, _+_, _-_, _/_, _≤_}
-use native.Mathlib.Omega.{arith}
-use lib.ListN.{length, take, drop, length-set}
-use Rattle.rle_format.specs.Slice.{over}
-use Rattle.rle_format.proofs.Slice.{over-none, over-copy}
-use Rattle.pixel_format.specs.Channel.{spaced}
-use Rattle.pixel_format.proofs.Samples.{length-spaced, getD-spaced}
 use Rattle.pixel_format.proofs.copy.copy_channel.Statement.{statement}
 use Rattle.pixel_format.proofs.copy.copy_channel.Tie as tie
+use Rattle.pixel_format.proofs.copy.copy_channel.Reads as reads
+use Rattle.pixel_format.proofs.copy.copy_channel.Lts as lts
+use Rattle.pixel_format.proofs.copy.copy_four.Reads as copy-four-reads
+use Rattle.pixel_format.proofs.copy.copy_rest.Reads as copy-rest-reads
 
 abbrev Inv-loop : tie.InvT-loop
-Inv-loop pixels place from n dst₀ i₀ dst i = (i ≤ n) × ((length dst ≡ length dst₀) × (dst ≡ over dst₀ (take i (drop from (spaced 4 place (length pixels / 4) pixels)))))
+Inv-loop pixels place from n dst₀ i₀ dst i = ?
 
 abbrev μ-loop : tie.MeasureT-loop
-μ-loop pixels place from n dst₀ i₀ dst i = n - i
+μ-loop pixels place from n dst₀ i₀ dst i = ?
 
+-- src/copy.rt:65:5
 loop-holds : tie.Need-loop-holds Inv-loop μ-loop
-loop-holds c = (omega arith, (refl, sym (over-none _)))
+loop-holds c = ?
 
-add-dst : tie.Need-add-dst Inv-loop μ-loop
-add-dst c = omega arith
+-- src/copy.rt:65:16
+sub-loop : tie.Need-sub-loop Inv-loop μ-loop
+sub-loop c = ?
 
-mul-dst : tie.Need-mul-dst Inv-loop μ-loop
-mul-dst c = omega arith
+-- src/copy.rt:66:34
+add-copy-four : tie.Need-add-copy-four Inv-loop μ-loop
+add-copy-four c = ?
 
-add-dst-2 : tie.Need-add-dst-2 Inv-loop μ-loop
-add-dst-2 c = omega arith
+-- src/copy.rt:66:9
+copy-four-requires : tie.Need-copy-four-requires Inv-loop μ-loop
+copy-four-requires c κs = ?
 
-shared-slice-read-dst : tie.Need-shared-slice-read-dst Inv-loop μ-loop
-shared-slice-read-dst c = omega arith
-
-slice-write-dst : tie.Need-slice-write-dst Inv-loop μ-loop
-slice-write-dst c = omega arith
-
+-- src/copy.rt:67:9
 add-i : tie.Need-add-i Inv-loop μ-loop
-add-i c = omega arith
+add-i c = ?
 
+-- src/copy.rt:65:5
 loop-less : tie.Need-loop-less Inv-loop μ-loop
-loop-less c = omega arith
+loop-less c = ?
 
+-- src/copy.rt:65:5
 loop-again : tie.Need-loop-again Inv-loop μ-loop
-loop-again c =
-    let l = c .before .before .loop in
-    let a = c .before .before .before .args in
-    let s = spaced 4 (a .place) (length (a .pixels .now) / 4) (a .pixels .now) in
-    let n = length-spaced 4 (a .place) (length (a .pixels .now) / 4) (a .pixels .now) in (
-      omega arith,
-      (
-        simp length-set (omega arith),
-        over-copy (a .dst .now) (l .dst) s (a .from) (l .i) _ (l .inv .1 .1) (omega arith) (omega arith)
-            (sym (getD-spaced 4 (a .place) (length (a .pixels .now) / 4) (a .pixels .now) (a .from + l .i) (omega arith))),
-      ),
-    )
+loop-again c = ?
 
+-- src/copy.rt:69:30
+add-copy-rest : tie.Need-add-copy-rest Inv-loop μ-loop
+add-copy-rest c = ?
+
+-- src/copy.rt:69:40
+sub-copy-rest : tie.Need-sub-copy-rest Inv-loop μ-loop
+sub-copy-rest c = ?
+
+-- src/copy.rt:69:5
+copy-rest-requires : tie.Need-copy-rest-requires Inv-loop μ-loop
+copy-rest-requires c κs = ?
+
+-- src/copy.rt:60:1
 same-length : tie.Need-same-length Inv-loop μ-loop
-same-length c = omega arith
+same-length c = ?
 
+-- src/copy.rt:60:1
 returns : tie.Need-returns Inv-loop μ-loop
-returns c =
-    let a = c .before .before .args in
-    let l = c .before .loop in
-    let all : l .i ≡ a .n = omega arith in
-    l .inv .1 .1 ∙ ap (λ (k : ℕ). over (a .dst .now) (take k (drop (a .from) (spaced 4 (a .place) (length (a .pixels .now) / 4) (a .pixels .now))))) all
+returns c = ?
 
 pub copy-channel-spec : {M : Type 1} → statement M
 copy-channel-spec =
@@ -71,13 +66,14 @@ copy-channel-spec =
     Inv-loop
     μ-loop
     loop-holds
-    add-dst
-    mul-dst
-    add-dst-2
-    shared-slice-read-dst
-    slice-write-dst
+    sub-loop
+    add-copy-four
+    copy-four-requires
     add-i
     loop-less
     loop-again
+    add-copy-rest
+    sub-copy-rest
+    copy-rest-requires
     same-length
     returns)
