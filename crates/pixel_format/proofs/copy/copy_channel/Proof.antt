@@ -1,63 +1,72 @@
+use mathlib.Core.Path.{_≡_, refl, sym, ap, _∙_}
+use Prim.Native.Nat.{ℕ, _+_, _-_, _/_, _≤_}
+use native.Mathlib.Omega.{arith}
+use borrow.Author.Needs.{needs}
+use lib.ListN.{length, take, drop}
+use Rattle.rle_format.specs.Slice.{over}
+use Rattle.rle_format.proofs.Slice.{over-none, over-part}
+use Rattle.pixel_format.specs.Channel.{spaced}
+use Rattle.pixel_format.proofs.Samples.{length-spaced}
 use Rattle.pixel_format.proofs.copy.copy_channel.Statement.{statement}
 use Rattle.pixel_format.proofs.copy.copy_channel.Tie as tie
-use Rattle.pixel_format.proofs.copy.copy_channel.Reads as reads
-use Rattle.pixel_format.proofs.copy.copy_channel.Lts as lts
-use Rattle.pixel_format.proofs.copy.copy_four.Reads as copy-four-reads
-use Rattle.pixel_format.proofs.copy.copy_rest.Reads as copy-rest-reads
+
+-- `copy_channel`: after each turn the samples of i pixels are copied, and then those that are left. Assumes nothing.
 
 abbrev Inv-loop : tie.InvT-loop
-Inv-loop pixels place from n dst₀ i₀ dst i = ?
+Inv-loop pixels place from n dst₀ i₀ dst i = (i ≤ n) × ((length dst ≡ length dst₀) × (dst ≡ over dst₀ (take i (drop from (spaced 4 place (length pixels / 4) pixels)))))
 
 abbrev μ-loop : tie.MeasureT-loop
-μ-loop pixels place from n dst₀ i₀ dst i = ?
+μ-loop pixels place from n dst₀ i₀ dst i = n - i
 
--- src/copy.rt:65:5
 loop-holds : tie.Need-loop-holds Inv-loop μ-loop
-loop-holds c = ?
+loop-holds c = (omega arith, (refl, sym (over-none _)))
 
--- src/copy.rt:65:16
 sub-loop : tie.Need-sub-loop Inv-loop μ-loop
-sub-loop c = ?
+sub-loop c = omega arith
 
--- src/copy.rt:66:34
 add-copy-four : tie.Need-add-copy-four Inv-loop μ-loop
-add-copy-four c = ?
+add-copy-four c = omega arith
 
--- src/copy.rt:66:9
 copy-four-requires : tie.Need-copy-four-requires Inv-loop μ-loop
-copy-four-requires c κs = ?
+copy-four-requires c κs = search needs
 
--- src/copy.rt:67:9
 add-i : tie.Need-add-i Inv-loop μ-loop
-add-i c = ?
+add-i c = omega arith
 
--- src/copy.rt:65:5
 loop-less : tie.Need-loop-less Inv-loop μ-loop
-loop-less c = ?
+loop-less c = omega arith
 
--- src/copy.rt:65:5
 loop-again : tie.Need-loop-again Inv-loop μ-loop
-loop-again c = ?
+loop-again c =
+    let f = c .before .before .copy-four in
+    let l = c .before .before .before .before .before .loop in
+    let a = c .before .before .before .before .before .before .before .before .args in
+    let s = spaced 4 (a .place) (length (a .pixels .now) / 4) (a .pixels .now) in
+    let n = length-spaced 4 (a .place) (length (a .pixels .now) / 4) (a .pixels .now) in
+    (omega arith, (omega arith, over-part (a .dst .now) (l .dst) (f .last .1 .1 .1 .0) s (a .from) (l .i) 4 (omega arith) (l .inv .1 .1) (f .ensures)))
 
--- src/copy.rt:69:30
 add-copy-rest : tie.Need-add-copy-rest Inv-loop μ-loop
-add-copy-rest c = ?
+add-copy-rest c = omega arith
 
--- src/copy.rt:69:40
 sub-copy-rest : tie.Need-sub-copy-rest Inv-loop μ-loop
-sub-copy-rest c = ?
+sub-copy-rest c = omega arith
 
--- src/copy.rt:69:5
 copy-rest-requires : tie.Need-copy-rest-requires Inv-loop μ-loop
-copy-rest-requires c κs = ?
+copy-rest-requires c κs = search needs
 
--- src/copy.rt:60:1
 same-length : tie.Need-same-length Inv-loop μ-loop
-same-length c = ?
+same-length c = omega arith
 
--- src/copy.rt:60:1
 returns : tie.Need-returns Inv-loop μ-loop
-returns c = ?
+returns c =
+    let f = c .before .before .copy-rest in
+    let l = c .before .before .before .before .before .loop in
+    let a = c .before .before .before .before .before .before .before .before .args in
+    let s = spaced 4 (a .place) (length (a .pixels .now) / 4) (a .pixels .now) in
+    let n = length-spaced 4 (a .place) (length (a .pixels .now) / 4) (a .pixels .now) in
+    let all : l .i + (a .n - l .i) ≡ a .n = omega arith in
+    over-part (a .dst .now) (l .dst) (f .last .1 .1 .1 .1 .0) s (a .from) (l .i) (a .n - l .i) (omega arith) (l .inv .1 .1) (f .ensures)
+    ∙ ap (λ (k : ℕ). over (a .dst .now) (take k (drop (a .from) s))) all
 
 pub copy-channel-spec : {M : Type 1} → statement M
 copy-channel-spec =

@@ -1,4 +1,3 @@
--- `copy_rest`: after i turns the samples of i pixels are copied. Assumes nothing.
 use mathlib.Core.Path.{_≡_, refl, sym, ap, _∙_}
 use Prim.Native.Nat.{ℕ, _+_, _-_, _/_, _≤_}
 use native.Mathlib.Omega.{arith}
@@ -9,8 +8,8 @@ use Rattle.pixel_format.specs.Channel.{spaced}
 use Rattle.pixel_format.proofs.Samples.{length-spaced, sample-at}
 use Rattle.pixel_format.proofs.copy.copy_rest.Statement.{statement}
 use Rattle.pixel_format.proofs.copy.copy_rest.Tie as tie
-use Rattle.pixel_format.proofs.copy.copy_rest.Reads as reads
-use Rattle.pixel_format.proofs.copy.copy_rest.Lts as lts
+
+-- `copy_rest`: after i turns the samples of i pixels are copied. Assumes nothing.
 
 abbrev Inv-loop : tie.InvT-loop
 Inv-loop pixels place from n dst₀ at i₀ dst i = (i ≤ n) × ((length dst ≡ length dst₀) × (dst ≡ putAt dst₀ at (take i (drop from (spaced 4 place (length pixels / 4) pixels)))))
@@ -18,43 +17,33 @@ Inv-loop pixels place from n dst₀ at i₀ dst i = (i ≤ n) × ((length dst �
 abbrev μ-loop : tie.MeasureT-loop
 μ-loop pixels place from n dst₀ at i₀ dst i = n - i
 
--- src/copy.rt:52:5
 loop-holds : tie.Need-loop-holds Inv-loop μ-loop
 loop-holds c = (omega arith, (refl, sym (putAt-none _ _)))
 
--- src/copy.rt:53:31
 add-dst : tie.Need-add-dst Inv-loop μ-loop
 add-dst c = omega arith
 
--- src/copy.rt:53:30
 mul-dst : tie.Need-mul-dst Inv-loop μ-loop
 mul-dst c = omega arith
 
--- src/copy.rt:53:30
 add-dst-2 : tie.Need-add-dst-2 Inv-loop μ-loop
 add-dst-2 c = omega arith
 
--- src/copy.rt:53:23
 shared-slice-read-dst : tie.Need-shared-slice-read-dst Inv-loop μ-loop
 shared-slice-read-dst c = omega arith
 
--- src/copy.rt:53:13
 add-dst-3 : tie.Need-add-dst-3 Inv-loop μ-loop
 add-dst-3 c = omega arith
 
--- src/copy.rt:53:9
 slice-write-dst : tie.Need-slice-write-dst Inv-loop μ-loop
 slice-write-dst c = omega arith
 
--- src/copy.rt:54:9
 add-i : tie.Need-add-i Inv-loop μ-loop
 add-i c = omega arith
 
--- src/copy.rt:52:5
 loop-less : tie.Need-loop-less Inv-loop μ-loop
 loop-less c = omega arith
 
--- src/copy.rt:52:5
 loop-again : tie.Need-loop-again Inv-loop μ-loop
 loop-again c =
     let l = c .before .before .loop in
@@ -70,11 +59,9 @@ loop-again c =
       ),
     )
 
--- src/copy.rt:47:1
 same-length : tie.Need-same-length Inv-loop μ-loop
 same-length c = omega arith
 
--- src/copy.rt:47:1
 returns : tie.Need-returns Inv-loop μ-loop
 returns c =
     let a = c .before .before .args in
