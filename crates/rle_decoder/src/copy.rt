@@ -43,9 +43,10 @@ fn copy_8(src: &[u8], from: usize, dst: &mut [u8], at: usize)
     dst[at + 7] = h;
 }
 
-// Copies 4 to 16 bytes by two copies of 4 or of 8, the first and the last of them, which overlap where there are fewer.
-fn copy_ends(raw: &[u8], dst: &mut [u8], at: usize)
-    requires { ⌜ (4 ≤ length (now raw)) × ((length (now raw) ≤ 16) × (at + length (now raw) ≤ length (now dst))) ⌝ }
+// Copies a segment's raw bytes to dst from index `at` on, and writes no byte beside them: four or more by two copies of 4 or of 8, of the
+// first of them and of the last, which overlap where there are fewer.
+pub(crate) fn copy_raw(raw: &[u8], dst: &mut [u8], at: usize)
+    requires { ⌜ (length (now raw) ≤ 15) × (at + length (now raw) ≤ length (now dst)) ⌝ }
     ensures { λ _. ⌜ now (dst .exit) ≡ putAt (now (dst .entry)) at (now (raw .entry)) ⌝ }
 {
     if 8 <= raw.len() {
@@ -54,19 +55,10 @@ fn copy_ends(raw: &[u8], dst: &mut [u8], at: usize)
         copy_8(raw, last, dst, at + last);
         return;
     }
-    let last = raw.len() - 4;
-    copy_4(raw, 0, dst, at);
-    copy_4(raw, last, dst, at + last);
-}
-
-// Copies a segment's raw bytes to dst from index `at` on, and writes no byte beside them. There are never more than 15; the test for that
-// asks nothing of the caller, and goes away where the compiler sees the control byte.
-pub(crate) fn copy_raw(raw: &[u8], dst: &mut [u8], at: usize)
-    requires { ⌜ at + length (now raw) ≤ length (now dst) ⌝ }
-    ensures { λ _. ⌜ now (dst .exit) ≡ putAt (now (dst .entry)) at (now (raw .entry)) ⌝ }
-{
-    if 4 <= raw.len() && raw.len() <= 16 {
-        copy_ends(raw, dst, at);
+    if 4 <= raw.len() {
+        let last = raw.len() - 4;
+        copy_4(raw, 0, dst, at);
+        copy_4(raw, last, dst, at + last);
         return;
     }
     bytes::copy(raw, &mut dst[at..]);

@@ -27,7 +27,7 @@ fn fill_run(dst: &mut [u8], at: usize, run: usize, value: u8)
 
 // Writes a segment's values to dst from a column on: its raw bytes, and then the run of the last byte.
 fn write_segment(raw: &[u8], run: usize, last: u8, dst: &mut [u8], column: usize)
-    requires { ⌜ column + (length (now raw) + run) ≤ length (now dst) ⌝ }
+    requires { ⌜ (length (now raw) ≤ 15) × (column + (length (now raw) + run) ≤ length (now dst)) ⌝ }
     ensures { λ _. ⌜ now (dst .exit) ≡ putAt (now (dst .entry)) column (now (raw .entry) ++ replicate run last) ⌝ }
 {
     copy_raw(raw, dst, column);

@@ -1,3 +1,4 @@
+-- `copy_channel`: after each turn the samples of i pixels are copied, and then those that are left. Assumes nothing.
 use mathlib.Core.Path.{_≡_, refl, sym, ap, _∙_}
 use Prim.Native.Nat.{ℕ, _+_, _-_, _/_, _≤_}
 use native.Mathlib.Omega.{arith}
@@ -9,8 +10,6 @@ use Rattle.pixel_format.specs.Channel.{spaced}
 use Rattle.pixel_format.proofs.Samples.{length-spaced}
 use Rattle.pixel_format.proofs.copy.copy_channel.Statement.{statement}
 use Rattle.pixel_format.proofs.copy.copy_channel.Tie as tie
-
--- `copy_channel`: after each turn the samples of i pixels are copied, and then those that are left. Assumes nothing.
 
 abbrev Inv-loop : tie.InvT-loop
 Inv-loop pixels place from n dst₀ i₀ dst i = (i ≤ n) × ((length dst ≡ length dst₀) × (dst ≡ over dst₀ (take i (drop from (spaced 4 place (length pixels / 4) pixels)))))

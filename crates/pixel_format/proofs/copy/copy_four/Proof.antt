@@ -1,3 +1,4 @@
+-- `copy_four`: four stores of what was read, one behind the other. Assumes nothing.
 use mathlib.Core.Path.{refl}
 use Prim.Native.Nat.{_+_, _*_, _/_}
 use native.Mathlib.Omega.{arith}
@@ -8,8 +9,6 @@ use Rattle.pixel_format.proofs.Samples.{length-spaced, sample-at}
 use borrow.Author.Needs.{needs}
 use Rattle.pixel_format.proofs.copy.copy_four.Statement.{statement}
 use Rattle.pixel_format.proofs.copy.copy_four.Tie as tie
-
--- `copy_four`: four stores of what was read, one behind the other. Assumes nothing.
 
 mul-first : tie.Need-mul-first
 mul-first c = search needs

@@ -1,3 +1,4 @@
+-- `copy_rest`: after i turns the samples of i pixels are copied. Assumes nothing.
 use mathlib.Core.Path.{_≡_, refl, sym, ap, _∙_}
 use Prim.Native.Nat.{ℕ, _+_, _-_, _/_, _≤_}
 use native.Mathlib.Omega.{arith}
@@ -8,8 +9,6 @@ use Rattle.pixel_format.specs.Channel.{spaced}
 use Rattle.pixel_format.proofs.Samples.{length-spaced, sample-at}
 use Rattle.pixel_format.proofs.copy.copy_rest.Statement.{statement}
 use Rattle.pixel_format.proofs.copy.copy_rest.Tie as tie
-
--- `copy_rest`: after i turns the samples of i pixels are copied. Assumes nothing.
 
 abbrev Inv-loop : tie.InvT-loop
 Inv-loop pixels place from n dst₀ at i₀ dst i = (i ≤ n) × ((length dst ≡ length dst₀) × (dst ≡ putAt dst₀ at (take i (drop from (spaced 4 place (length pixels / 4) pixels)))))
