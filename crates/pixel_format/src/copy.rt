@@ -26,8 +26,8 @@ pub(crate) fn least(a: usize, b: usize) -> usize
     if a < b { a } else { b }
 }
 
-// Copies the bytes at `place` of four pixels, from pixel `from` on, to dst from index `at` on. All are read before the first is written,
-// because the compiler does not know that the slices are apart: the four then go out in one store.
+// Copies the bytes at `place` of four pixels, from pixel `from` on, to dst from index `at` on: four plain moves. Of a loop by single
+// pixels the compiler makes wide steps that gather their bytes one by one, which take longer.
 fn copy_four(pixels: &[u8], place: usize, from: usize, dst: &mut [u8], at: usize)
     requires { ⌜ (place < 4) × ((from + 4 ≤ length (now pixels) / 4) × (at + 4 ≤ length (now dst))) ⌝ }
     ensures { λ _. ⌜ now (dst .exit) ≡ putAt (now (dst .entry)) at (take 4 (drop from (spaced 4 place (length (now (pixels .entry)) / 4) (now (pixels .entry))))) ⌝ }
