@@ -38,6 +38,10 @@ getD-spaced stride place (suc n) d i h =
     getD-at (spaced stride place n d) (getD d (n * stride + place) 0) [] 0 i (len ∙ sym e) ∙ ap (λ (k : ℕ). getD d (k * stride + place) 0) (sym e))
     (le-or-gt (suc i) n)
 
+-- the byte at sample i's place of a slice of pixels
+pub sample-at : (stride place n : ℕ) (d : List ℕ) (i k : ℕ) → i < n → k ≡ i * stride + place → getD d k 0 ≡ getD (spaced stride place n d) i 0
+sample-at stride place n d i k h e = ap (λ (m : ℕ). getD d m 0) e ∙ sym (getD-spaced stride place n d i h)
+
 -- ---- a read that asks for more than there are
 
 -- none are left

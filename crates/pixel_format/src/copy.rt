@@ -2,7 +2,7 @@
 ghost use mathlib.Core.Path.{_≡_};
 ghost use Prim.Native.Nat.{_+_, _≤_, _<_, _/_, min};
 ghost use lib.ListN.{length, take, drop};
-ghost use Rattle.rle_format.specs.Slice.{over};
+ghost use Rattle.rle_format.specs.Slice.{over, putAt};
 ghost use Rattle.pixel_format.specs.Channel.{bgrA, placeOf, spaced};
 use crate::BgrAChannels;
 use crate::Channel;
@@ -26,15 +26,45 @@ pub(crate) fn least(a: usize, b: usize) -> usize
     if a < b { a } else { b }
 }
 
-// Copies the bytes at `place` of n pixels, from pixel `from` on, to the start of dst. The stride is a constant, so that the compiler can turn
-// this into wide steps.
+// Copies the bytes at `place` of four pixels, from pixel `from` on, to dst from index `at` on: four plain moves. Of a loop by single
+// pixels the compiler makes wide steps that gather their bytes one by one, which take longer.
+fn copy_four(pixels: &[u8], place: usize, from: usize, dst: &mut [u8], at: usize)
+    requires { ⌜ (place < 4) × ((from + 4 ≤ length (now pixels) / 4) × (at + 4 ≤ length (now dst))) ⌝ }
+    ensures { λ _. ⌜ now (dst .exit) ≡ putAt (now (dst .entry)) at (take 4 (drop from (spaced 4 place (length (now (pixels .entry)) / 4) (now (pixels .entry))))) ⌝ }
+{
+    let first = from * BgrAChannels::STRIDE + place;
+    let a = pixels[first];
+    let b = pixels[first + BgrAChannels::STRIDE];
+    let c = pixels[first + 2 * BgrAChannels::STRIDE];
+    let d = pixels[first + 3 * BgrAChannels::STRIDE];
+    dst[at] = a;
+    dst[at + 1] = b;
+    dst[at + 2] = c;
+    dst[at + 3] = d;
+}
+
+// Copies the bytes at `place` of n pixels likewise, one by one.
+fn copy_rest(pixels: &[u8], place: usize, from: usize, n: usize, dst: &mut [u8], at: usize)
+    requires { ⌜ (place < 4) × ((from + n ≤ length (now pixels) / 4) × (at + n ≤ length (now dst))) ⌝ }
+    ensures { λ _. ⌜ now (dst .exit) ≡ putAt (now (dst .entry)) at (take n (drop from (spaced 4 place (length (now (pixels .entry)) / 4) (now (pixels .entry))))) ⌝ }
+{
+    let mut i = 0;
+    while i < n {
+        dst[at + i] = pixels[(from + i) * BgrAChannels::STRIDE + place];
+        i += 1;
+    }
+}
+
+// Copies the bytes at `place` of n pixels, from pixel `from` on, to the start of dst: by fours, and then what is left. The stride is a
+// constant, for the compiler.
 pub(crate) fn copy_channel(pixels: &[u8], place: usize, from: usize, n: usize, dst: &mut [u8])
     requires { ⌜ (place < 4) × (from + n ≤ length (now pixels) / 4) × (n ≤ length (now dst)) ⌝ }
     ensures { λ _. ⌜ now (dst .exit) ≡ over (now (dst .entry)) (take n (drop from (spaced 4 place (length (now (pixels .entry)) / 4) (now (pixels .entry))))) ⌝ }
 {
     let mut i = 0;
-    while i < n {
-        dst[i] = pixels[(from + i) * BgrAChannels::STRIDE + place];
-        i += 1;
+    while 4 <= n - i {
+        copy_four(pixels, place, from + i, dst, i);
+        i += 4;
     }
+    copy_rest(pixels, place, from + i, n - i, dst, i);
 }

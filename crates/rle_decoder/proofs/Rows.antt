@@ -105,7 +105,7 @@ module _ (src d₀ d : List ℕ) (w n from at above : ℕ) where
             let is : put-back d₁ above zs ≡ putAt d start S =
             lent-put d₁ zs (columns undelta (take w (tail d₁ above)) (take w (drop w (tail d₁ above)))) above w resolved
             ∙ (λ i. putAt (coded i) start (columns undelta (up i) (down i)))
-            ∙ putAt-again d start vs S (omega arith) (long ∙ sym ls) in
+            ∙ putAt-again d start vs S (omega arith) (omega arith) in
             let into : start + length S ≤ length d = omega arith in
             let c : start + length S ≡ start + w = omega arith in
             let front : take (start + w) (put-back d₁ above zs) ≡ take start d ++ S = rw (is, ← c) (take-putAt d start S into) in

@@ -1,4 +1,5 @@
 // Unpacks a plane of an RDP 6.0 picture (MS-RDPEGDI 3.1.9.2): the decoding half of the Rust's rdp6/rle.rs.
+mod copy;
 mod delta;
 mod row;
 mod segment;

@@ -7,6 +7,7 @@ ghost use Rattle.rle_format.specs.Answer.{told};
 ghost use Rattle.rle_format.specs.Slice.{over, putAt};
 ghost use Rattle.rle_decoder.specs.NextSegment.{toldSegment, stoppedBy};
 ghost use Rattle.rle_decoder.specs.Rows.{codedRow};
+use crate::copy::copy_raw;
 use crate::segment::NextSegment;
 use crate::segment::decompress_next_segment;
 use rle_format::Refusal;
@@ -26,10 +27,10 @@ fn fill_run(dst: &mut [u8], at: usize, run: usize, value: u8)
 
 // Writes a segment's values to dst from a column on: its raw bytes, and then the run of the last byte.
 fn write_segment(raw: &[u8], run: usize, last: u8, dst: &mut [u8], column: usize)
-    requires { ⌜ column + (length (now raw) + run) ≤ length (now dst) ⌝ }
+    requires { ⌜ (length (now raw) ≤ 15) × (column + (length (now raw) + run) ≤ length (now dst)) ⌝ }
     ensures { λ _. ⌜ now (dst .exit) ≡ putAt (now (dst .entry)) column (now (raw .entry) ++ replicate run last) ⌝ }
 {
-    bytes::copy(raw, &mut dst[column..]);
+    copy_raw(raw, dst, column);
     fill_run(dst, column + raw.len(), run, last);
 }
 

@@ -56,7 +56,7 @@ fn last_decoded_byte(src: &[u8], at: usize, raw: usize, last: u8) -> u8
 // bytes once it knows that they fit.
 pub(crate) fn decompress_next_segment(src: &[u8], at: usize, last: u8) -> NextSegment
     ensures read { λ r. ⌜ toldSegment r ≡ answerTo last (readSegment (drop at (now (src .entry)))) ⌝ }
-    ensures short { λ r. ⌜ ((raw run next : ℕ) → r ≡ NextSegment.Read raw run next → raw + run ≤ 47) ⌝ }
+    ensures short { λ r. ⌜ ((raw run next : ℕ) → r ≡ NextSegment.Read raw run next → (raw ≤ 15) × (raw + run ≤ 47)) ⌝ }
 {
     if src.len() <= at {
         return NextSegment::Refused(Refusal::ReadCompressedData);

@@ -29,17 +29,18 @@ module _ (c : ℕ) where
     unfolding rawCount runLength
     says-plain not-two = rw (ne-eqb (c % 16) 1 not-one, ne-eqb (c % 16) 2 not-two) (refl, refl)
 
--- a control byte that is not 0 stands for one value at least, and for 47 at most: "The largest is 47"
+-- a control byte that is not 0 stands for one value at least, and for 47 at most: "The largest is 47"; 15 of them at most are raw bytes
 pub record Stands (c : ℕ) : Type 0 where
   pub some : (c ≡ 0 → ⊥) → 1 ≤ rawCount c + runLength c
   pub few : c < 256 → rawCount c + runLength c ≤ 47
+  pub raw : c < 256 → rawCount c ≤ 15
 
 pub stands : (c : ℕ) → Stands c
 stands c =
-    ⊎-elim (λ (one : c % 16 ≡ 1). let s = says-one c one in record { some = λ z. omega arith; few = λ h. omega arith })
+    ⊎-elim (λ (one : c % 16 ≡ 1). let s = says-one c one in record { some = λ z. omega arith; few = λ h. omega arith; raw = λ h. omega arith })
     (λ (not-one : c % 16 ≡ 1 → ⊥).
-    ⊎-elim (λ (two : c % 16 ≡ 2). let s = says-two c not-one two in record { some = λ z. omega arith; few = λ h. omega arith })
-    (λ (not-two : c % 16 ≡ 2 → ⊥). let s = says-plain c not-one not-two in record { some = λ z. omega arith; few = λ h. omega arith })
+    ⊎-elim (λ (two : c % 16 ≡ 2). let s = says-two c not-one two in record { some = λ z. omega arith; few = λ h. omega arith; raw = λ h. omega arith })
+    (λ (not-two : c % 16 ≡ 2 → ⊥). let s = says-plain c not-one not-two in record { some = λ z. omega arith; few = λ h. omega arith; raw = λ h. omega arith })
     (eq-or-ne (c % 16) 2))
     (eq-or-ne (c % 16) 1)
 

@@ -165,12 +165,38 @@ pub take-putAt-front : (d : List ℕ) (at : ℕ) (vs : List ℕ) → at ≤ leng
 unfolding putAt
 take-putAt-front d at vs h = take-at (take at d) (vs ++ drop (at + length vs) d) at (simp length-take (omega arith))
 
--- a write over a write of as many
-pub putAt-again : (d : List ℕ) (at : ℕ) (vs ws : List ℕ) → at + length vs ≤ length d → length vs ≡ length ws → putAt (putAt d at vs) at ws ≡ putAt d at ws
-putAt-again d at vs ws fits e =
+-- a write over a write of as many or fewer
+pub putAt-again : (d : List ℕ) (at : ℕ) (vs ws : List ℕ) → at + length vs ≤ length d → length vs ≤ length ws → putAt (putAt d at vs) at ws ≡ putAt d at ws
+putAt-again d at vs ws fits h =
+    let more : at + length ws ≡ at + length vs + (length ws - length vs) = omega arith in
+    let far : (l : List ℕ) → drop (at + length ws) l ≡ drop (length ws - length vs) (drop (at + length vs) l) =
+    λ l. ap (λ (k : ℕ). drop k l) more ∙ sym (drop-drop (length ws - length vs) (at + length vs) l) in
     let front : take at (putAt d at vs) ≡ take at d = take-putAt-front d at vs (omega arith) in
-    let back : drop (at + length ws) (putAt d at vs) ≡ drop (at + length ws) d = rw (← e) (drop-putAt d at vs fits) in
+    let back : drop (at + length ws) (putAt d at vs) ≡ drop (at + length ws) d =
+    far (putAt d at vs) ∙ ap (drop (length ws - length vs)) (drop-putAt d at vs fits) ∙ sym (far d) in
     putAt-parts (putAt d at vs) d at ws front back
+
+-- the first k of s, and then its last k, which overlap them where s is shorter than both: s is written
+pub put-ends : (d one two s : List ℕ) (at k from : ℕ) → from + k ≡ length s → from ≤ k → at + length s ≤ length d
+    → one ≡ putAt d at (take k s) → two ≡ putAt one (at + from) (take k (drop from s)) → two ≡ putAt d at s
+put-ends d one two s at k from n h fits e₁ e₂ =
+    let xs = take from s in
+    let ys = take (k - from) (drop from s) in
+    let left = length-drop from s in
+    let lx : length xs ≡ from = length-take-le from s (omega arith) in
+    let ly : length ys ≡ k - from = length-take-le (k - from) (drop from s) (omega arith) in
+    let all : take k (drop from s) ≡ drop from s = take-all k (drop from s) (omega arith) in
+    let lz : length (take k (drop from s)) ≡ k = length-take-le k (drop from s) (omega arith) in
+    let part : take k s ≡ xs ++ ys = ap (λ (m : ℕ). take m s) (let z : k ≡ from + (k - from) = omega arith in z) ∙ take-add from (k - from) s in
+    let front : at + length xs ≤ length d = omega arith in
+    let wide : length (putAt d at xs) ≡ length d = length-putAt d at xs front in
+    let twice : one ≡ putAt (putAt d at xs) (at + length xs) ys = e₁ ∙ ap (putAt d at) part ∙ sym (putAt-putAt d at xs front ys) in
+    e₂
+    ∙ (λ i. putAt (twice i) (at + sym lx i) (take k (drop from s)))
+    ∙ putAt-again (putAt d at xs) (at + length xs) ys (take k (drop from s)) (omega arith) (omega arith)
+    ∙ putAt-putAt d at xs front (take k (drop from s))
+    ∙ ap (λ (l : List ℕ). putAt d at (xs ++ l)) all
+    ∙ ap (putAt d at) (take-append-drop from s)
 
 -- the first places written twice, the second time as many or more
 pub over-over : (d vs ws : List ℕ) → length vs ≤ length ws → over (over d vs) ws ≡ over d ws
@@ -219,20 +245,52 @@ pub put-front : (d vs : List ℕ) → putAt d 0 vs ≡ over d vs
 unfolding over putAt
 put-front d vs = ap (λ (k : ℕ). vs ++ drop k d) (zero-add (length vs))
 
--- a store right behind the first places that were overwritten
-pub over-set : (d now vs : List ℕ) (i v : ℕ) → now ≡ over d vs → length vs ≡ i → i < length d → set now i v ≡ over d (vs ++ v ∷ [])
-over-set d now vs i v e n h =
-    let room : 0 + length vs < length d = omega arith in
-    let place : 0 + length vs ≡ i = omega arith in
-    (λ j. set ((e ∙ sym (put-front d vs)) j) (sym place j) v) ∙ putAt-more d 0 vs v room ∙ put-front d (vs ++ v ∷ [])
+-- ---- bytes copied one by one, from index `from` of a list
 
--- a turn of a loop that copies from index `from` of a list to the first places of a slice
-pub over-copy : (d now s : List ℕ) (from i v : ℕ) → now ≡ over d (take i (drop from s)) → from + i < length s → i < length d → v ≡ getD s (from + i) 0
-    → set now i v ≡ over d (take (i + 1) (drop from s))
-over-copy d now s from i v e h k is =
+-- one more, to the place behind those that were copied to index `at` on
+pub put-copy : (d now s : List ℕ) (from at i to v : ℕ) → now ≡ putAt d at (take i (drop from s)) → to ≡ at + i → from + i < length s → at + i < length d
+    → v ≡ getD s (from + i) 0 → set now to v ≡ putAt d at (take (i + 1) (drop from s))
+put-copy d now s from at i to v e p h k is =
     let left = length-drop from s in
     let n : length (take i (drop from s)) ≡ i = length-take-le i (drop from s) (omega arith) in
-    over-set d now (take i (drop from s)) i v e n k
-    ∙ ap (λ (x : ℕ). over d (take i (drop from s) ++ x ∷ [])) (is ∙ sym (getD-drop from s i 0))
-    ∙ ap (over d) (sym (take-suc (drop from s) i 0 (omega arith)))
-    ∙ ap (λ (m : ℕ). over d (take m (drop from s))) (sym (add-one i))
+    let place : to ≡ at + length (take i (drop from s)) = omega arith in
+    (λ j. set (e j) (place j) v)
+    ∙ putAt-more d at (take i (drop from s)) v (omega arith)
+    ∙ ap (λ (x : ℕ). putAt d at (take i (drop from s) ++ x ∷ [])) (is ∙ sym (getD-drop from s i 0))
+    ∙ ap (putAt d at) (sym (take-suc (drop from s) i 0 (omega arith)))
+    ∙ ap (λ (m : ℕ). putAt d at (take m (drop from s))) (sym (add-one i))
+
+-- so many more, behind those that were copied to the first places
+pub over-part : (d now next s : List ℕ) (from i k : ℕ) → from + i ≤ length s → now ≡ over d (take i (drop from s)) → next ≡ putAt now i (take k (drop (from + i) s))
+    → next ≡ over d (take (i + k) (drop from s))
+over-part d now next s from i k h e₁ e₂ =
+    let left = length-drop from s in
+    let n : length (take i (drop from s)) ≡ i = length-take-le i (drop from s) (omega arith) in
+    e₂
+    ∙ (λ j. putAt (e₁ j) i (take k (sym (drop-drop i from s) j)))
+    ∙ over-more d (take i (drop from s)) (take k (drop i (drop from s))) i n
+    ∙ ap (over d) (sym (take-add i k (drop from s)))
+
+-- four to index `at` on, which were all read before the first was written
+module _ (d s : List ℕ) (from at : ℕ) where
+  pub put-four : (v₀ v₁ v₂ v₃ : ℕ) → from + 4 ≤ length s → at + 4 ≤ length d
+      → v₀ ≡ getD s from 0 → v₁ ≡ getD s (from + 1) 0 → v₂ ≡ getD s (from + 2) 0 → v₃ ≡ getD s (from + 3) 0
+      → set (set (set (set d at v₀) (at + 1) v₁) (at + 2) v₂) (at + 3) v₃ ≡ putAt d at (take 4 (drop from s))
+  put-four v₀ v₁ v₂ v₃ h k e₀ e₁ e₂ e₃ =
+      let first : v₀ ≡ getD s (from + 0) 0 = e₀ ∙ ap (λ (n : ℕ). getD s n 0) (sym (add-zero from)) in
+      let one = put-copy d d s from at 0 at v₀ (sym (putAt-none d at)) (omega arith) (omega arith) (omega arith) first in
+      let two = put-copy d _ s from at 1 (at + 1) v₁ one refl (omega arith) (omega arith) e₁ in
+      let three = put-copy d _ s from at 2 (at + 2) v₂ two refl (omega arith) (omega arith) e₂ in
+      put-copy d _ s from at 3 (at + 3) v₃ three refl (omega arith) (omega arith) e₃
+
+  -- and eight
+  pub put-eight : from + 8 ≤ length s → at + 8 ≤ length d
+      → set (set (set (set (set (set (set (set d at (getD s from 0)) (at + 1) (getD s (from + 1) 0)) (at + 2) (getD s (from + 2) 0)) (at + 3) (getD s (from + 3) 0))
+      (at + 4) (getD s (from + 4) 0)) (at + 5) (getD s (from + 5) 0)) (at + 6) (getD s (from + 6) 0)) (at + 7) (getD s (from + 7) 0)
+      ≡ putAt d at (take 8 (drop from s))
+  put-eight h k =
+      let four = put-four _ _ _ _ (omega arith) (omega arith) refl refl refl refl in
+      let five = put-copy d _ s from at 4 (at + 4) _ four refl (omega arith) (omega arith) refl in
+      let six = put-copy d _ s from at 5 (at + 5) _ five refl (omega arith) (omega arith) refl in
+      let seven = put-copy d _ s from at 6 (at + 6) _ six refl (omega arith) (omega arith) refl in
+      put-copy d _ s from at 7 (at + 7) _ seven refl (omega arith) (omega arith) refl

@@ -1,12 +1,13 @@
--- `copy_channel`: after i turns the samples of i pixels are copied. Assumes nothing.
+-- `copy_channel`: after each turn the samples of i pixels are copied, and then those that are left. Assumes nothing.
 use mathlib.Core.Path.{_≡_, refl, sym, ap, _∙_}
 use Prim.Native.Nat.{ℕ, _+_, _-_, _/_, _≤_}
 use native.Mathlib.Omega.{arith}
-use lib.ListN.{length, take, drop, length-set}
+use borrow.Author.Needs.{needs}
+use lib.ListN.{length, take, drop}
 use Rattle.rle_format.specs.Slice.{over}
-use Rattle.rle_format.proofs.Slice.{over-none, over-copy}
+use Rattle.rle_format.proofs.Slice.{over-none, over-part}
 use Rattle.pixel_format.specs.Channel.{spaced}
-use Rattle.pixel_format.proofs.Samples.{length-spaced, getD-spaced}
+use Rattle.pixel_format.proofs.Samples.{length-spaced}
 use Rattle.pixel_format.proofs.copy.copy_channel.Statement.{statement}
 use Rattle.pixel_format.proofs.copy.copy_channel.Tie as tie
 
@@ -19,20 +20,14 @@ abbrev μ-loop : tie.MeasureT-loop
 loop-holds : tie.Need-loop-holds Inv-loop μ-loop
 loop-holds c = (omega arith, (refl, sym (over-none _)))
 
-add-dst : tie.Need-add-dst Inv-loop μ-loop
-add-dst c = omega arith
+sub-loop : tie.Need-sub-loop Inv-loop μ-loop
+sub-loop c = omega arith
 
-mul-dst : tie.Need-mul-dst Inv-loop μ-loop
-mul-dst c = omega arith
+add-copy-four : tie.Need-add-copy-four Inv-loop μ-loop
+add-copy-four c = omega arith
 
-add-dst-2 : tie.Need-add-dst-2 Inv-loop μ-loop
-add-dst-2 c = omega arith
-
-shared-slice-read-dst : tie.Need-shared-slice-read-dst Inv-loop μ-loop
-shared-slice-read-dst c = omega arith
-
-slice-write-dst : tie.Need-slice-write-dst Inv-loop μ-loop
-slice-write-dst c = omega arith
+copy-four-requires : tie.Need-copy-four-requires Inv-loop μ-loop
+copy-four-requires c κs = search needs
 
 add-i : tie.Need-add-i Inv-loop μ-loop
 add-i c = omega arith
@@ -42,27 +37,35 @@ loop-less c = omega arith
 
 loop-again : tie.Need-loop-again Inv-loop μ-loop
 loop-again c =
-    let l = c .before .before .loop in
-    let a = c .before .before .before .args in
+    let f = c .before .before .copy-four in
+    let l = c .before .before .before .before .before .loop in
+    let a = c .before .before .before .before .before .before .before .before .args in
     let s = spaced 4 (a .place) (length (a .pixels .now) / 4) (a .pixels .now) in
-    let n = length-spaced 4 (a .place) (length (a .pixels .now) / 4) (a .pixels .now) in (
-      omega arith,
-      (
-        simp length-set (omega arith),
-        over-copy (a .dst .now) (l .dst) s (a .from) (l .i) _ (l .inv .1 .1) (omega arith) (omega arith)
-            (sym (getD-spaced 4 (a .place) (length (a .pixels .now) / 4) (a .pixels .now) (a .from + l .i) (omega arith))),
-      ),
-    )
+    let n = length-spaced 4 (a .place) (length (a .pixels .now) / 4) (a .pixels .now) in
+    (omega arith, (omega arith, over-part (a .dst .now) (l .dst) (f .last .1 .1 .1 .0) s (a .from) (l .i) 4 (omega arith) (l .inv .1 .1) (f .ensures)))
+
+add-copy-rest : tie.Need-add-copy-rest Inv-loop μ-loop
+add-copy-rest c = omega arith
+
+sub-copy-rest : tie.Need-sub-copy-rest Inv-loop μ-loop
+sub-copy-rest c = omega arith
+
+copy-rest-requires : tie.Need-copy-rest-requires Inv-loop μ-loop
+copy-rest-requires c κs = search needs
 
 same-length : tie.Need-same-length Inv-loop μ-loop
 same-length c = omega arith
 
 returns : tie.Need-returns Inv-loop μ-loop
 returns c =
-    let a = c .before .before .args in
-    let l = c .before .loop in
-    let all : l .i ≡ a .n = omega arith in
-    l .inv .1 .1 ∙ ap (λ (k : ℕ). over (a .dst .now) (take k (drop (a .from) (spaced 4 (a .place) (length (a .pixels .now) / 4) (a .pixels .now))))) all
+    let f = c .before .before .copy-rest in
+    let l = c .before .before .before .before .before .loop in
+    let a = c .before .before .before .before .before .before .before .before .args in
+    let s = spaced 4 (a .place) (length (a .pixels .now) / 4) (a .pixels .now) in
+    let n = length-spaced 4 (a .place) (length (a .pixels .now) / 4) (a .pixels .now) in
+    let all : l .i + (a .n - l .i) ≡ a .n = omega arith in
+    over-part (a .dst .now) (l .dst) (f .last .1 .1 .1 .1 .0) s (a .from) (l .i) (a .n - l .i) (omega arith) (l .inv .1 .1) (f .ensures)
+    ∙ ap (λ (k : ℕ). over (a .dst .now) (take k (drop (a .from) s))) all
 
 pub copy-channel-spec : {M : Type 1} → statement M
 copy-channel-spec =
@@ -71,13 +74,14 @@ copy-channel-spec =
     Inv-loop
     μ-loop
     loop-holds
-    add-dst
-    mul-dst
-    add-dst-2
-    shared-slice-read-dst
-    slice-write-dst
+    sub-loop
+    add-copy-four
+    copy-four-requires
     add-i
     loop-less
     loop-again
+    add-copy-rest
+    sub-copy-rest
+    copy-rest-requires
     same-length
     returns)

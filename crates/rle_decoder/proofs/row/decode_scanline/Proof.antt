@@ -31,6 +31,7 @@ record Turned (src : List ℕ) (at raw run : ℕ) : Type 0 where
   within : at + raw < length src
   some : 1 ≤ raw + run
   few : raw + run ≤ 47
+  short : raw ≤ 15
 
 turned : (c : tie.After-segment Inv-loop μ-loop)
     → Turned (c .before .before .before .before .before .before .before .args .src .now) (c .before .before .before .before .loop .at) (c .segment .given .0 .0) (c .segment .given .0 .1 .0)
@@ -38,7 +39,8 @@ turned c =
     let l = c .before .before .before .before .loop in
     let a = c .before .before .before .before .before .before .before .args in
     let f = found-segment (a .src .now) (l .at) (l .last) (c .segment .given .0 .0) (c .segment .given .0 .1 .0) (c .segment .given .0 .1 .1 .0) (known c) in
-    record { within = f .within; some = f .some; few = c .before .before .decompress-next-segment .ensures .1 _ _ _ (c .segment .given .1) }
+    let e = c .before .before .decompress-next-segment .ensures .1 _ _ _ (c .segment .given .1) in
+    record { within = f .within; some = f .some; few = e .1; short = e .0 }
 
 loop-holds : tie.Need-loop-holds Inv-loop μ-loop
 loop-holds c = row-first _ _ _ _
@@ -107,7 +109,11 @@ part-write-segment-end : tie.Need-part-write-segment-end Inv-loop μ-loop
 part-write-segment-end c = omega (arith, turned (c .before .before) .within)
 
 write-segment-requires : tie.Need-write-segment-requires Inv-loop μ-loop
-write-segment-requires c κs = simp (length-take, length-drop) (omega (arith, turned (c .before .before .before .before) .within, c .before .before .if1 .left))
+write-segment-requires c κs =
+    let t = turned (c .before .before .before .before) in (
+      simp (length-take, length-drop) (omega (arith, t .short)),
+      simp (length-take, length-drop) (omega (arith, t .within, c .before .before .if1 .left)),
+    )
 
 add-column : tie.Need-add-column Inv-loop μ-loop
 add-column c = omega (arith, c .before .before .before .before .before .if1 .left)

@@ -1,5 +1,5 @@
 -- `write_segment`: two writes, one right behind the other. Assumes nothing.
-use Rattle.rle_format.proofs.Slice.{copied, put-both, put-back, lent-over}
+use Rattle.rle_format.proofs.Slice.{put-both}
 use mathlib.Core.Path.{refl}
 use native.Mathlib.Omega.{arith}
 use lib.ListN.{length, replicate}
@@ -7,17 +7,8 @@ use borrow.Author.Needs.{needs}
 use Rattle.rle_decoder.proofs.row.write_segment.Statement.{statement}
 use Rattle.rle_decoder.proofs.row.write_segment.Tie as tie
 
-sub-copy : tie.Need-sub-copy
-sub-copy c = search needs
-
-part-copy-start : tie.Need-part-copy-start
-part-copy-start c = search needs
-
-part-copy-end : tie.Need-part-copy-end
-part-copy-end c = search needs
-
-copy-requires : tie.Need-copy-requires
-copy-requires c κs = search needs
+copy-raw-requires : tie.Need-copy-raw-requires
+copy-raw-requires c κs = search needs
 
 add-fill-run : tie.Need-add-fill-run
 add-fill-run c = search needs
@@ -31,19 +22,15 @@ same-length c = search needs
 returns : tie.Need-returns
 returns c =
     let f = c .before .before .fill-run in
-    let k = c .before .before .before .before .before .before .copy in
+    let k = c .before .before .before .before .before .before .copy-raw in
     let a = c .before .before .before .before .before .before .before .before .before .before .args in
-    put-both (a .dst .now) (put-back (a .dst .now) (a .column) (k .last .1 .0)) (f .last .0) (a .raw .now) (replicate (a .run) (a .last)) (a .column) (length (a .raw .now)) refl (omega arith)
-    (lent-over (a .dst .now) (k .last .1 .0) (a .raw .now) (a .column) (copied _ (a .raw .now) _ (k .ensures .1))) (f .ensures)
+    put-both (a .dst .now) (k .last .1 .0) (f .last .0) (a .raw .now) (replicate (a .run) (a .last)) (a .column) (length (a .raw .now)) refl (omega arith) (k .ensures) (f .ensures)
 
 pub write-segment-spec : {M : Type 1} → statement M
 write-segment-spec =
     tie.close
     (tie.spec
-    sub-copy
-    part-copy-start
-    part-copy-end
-    copy-requires
+    copy-raw-requires
     add-fill-run
     fill-run-requires
     same-length

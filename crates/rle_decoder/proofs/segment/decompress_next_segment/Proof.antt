@@ -3,6 +3,7 @@ use Rattle.rle_format.proofs.Segment.{stands, segment-end, segment-zero}
 use Rattle.rle_decoder.proofs.Segments.{not-read, read-at, short-at}
 use Rattle.rle_decoder.specs.NextSegment.{answerTo, toldSegment}
 use mathlib.Core.Path.{_≡_, sym, ap}
+use Prim.Native.Nat.{_<_}
 use native.Mathlib.Omega.{arith}
 use lib.ListN.{getD}
 use borrow.Author.Needs.{needs}
@@ -41,10 +42,13 @@ returns-4 c =
     let f = c .before .before in
     let a = f .before .before .before .before .before .args in
     let e = f .control-fields .ensures in
-    let few = stands (getD (a .src .now) (a .at) 0) .few (omega (arith, f .before .before .shared-slice-known2 .given (a .at))) in (
+    let s = stands (getD (a .src .now) (a .at) 0) in
+    let byte : getD (a .src .now) (a .at) 0 < 256 = omega (arith, f .before .before .shared-slice-known2 .given (a .at)) in
+    let few = s .few byte in
+    let short = s .raw byte in (
       read-at (a .src .now) (a .at) (a .last) (f .control-fields .result .raw) (f .control-fields .result .run) (c .last-decoded-byte .result)
           (f .before .before .before .if1 .left) (f .before .if2 .left) (e .0) (e .1) (c .before .if3 .left) (c .last-decoded-byte .ensures),
-      λ raw run next q. let p : f .control-fields .result .raw ≡ raw = cc in let n : f .control-fields .result .run ≡ run = cc in omega arith,
+      λ raw run next q. let p : f .control-fields .result .raw ≡ raw = cc in let n : f .control-fields .result .run ≡ run = cc in (omega arith, omega arith),
     )
 
 pub decompress-next-segment-spec : {M : Type 1} → statement M
