@@ -45,7 +45,7 @@ fn function_of(at: usize) -> String {
     let mut text = [0 as c_char; 200];
     // SAFETY: both texts end in a zero byte, the second within its length.
     unsafe {
-        __sanitizer_symbolize_pc(place(at), c"%f".as_ptr(), text.as_mut_ptr(), text.len());
+        __sanitizer_symbolize_pc(place(at) + 1, c"%f".as_ptr(), text.as_mut_ptr(), text.len());
         CStr::from_ptr(text.as_ptr()).to_string_lossy().into_owned()
     }
 }

@@ -3,7 +3,6 @@
 
 mod edges;
 mod sanitizer;
-mod wrong;
 
 use comparer::shrink::shrink;
 use comparer::tally::Kind;

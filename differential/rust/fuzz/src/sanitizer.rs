@@ -22,7 +22,7 @@ pub fn watch(at: *const u8, len: usize, forbidden: bool) {
 /// A touched guard page is the lender's to note. What is kept to the end of the program is no leak.
 #[no_mangle]
 pub extern "C" fn __asan_default_options() -> *const c_char {
-    c"handle_segv=0:detect_leaks=0".as_ptr()
+    c"handle_segv=0:detect_leaks=0:quarantine_size_mb=1:malloc_context_size=0".as_ptr()
 }
 
 /// The sanitiser has found something and ends the program: the case first.

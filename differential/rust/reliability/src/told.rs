@@ -9,7 +9,7 @@ use comparer::planes::counts;
 use comparer::{Input, Owned};
 
 /// A plane inside the domain has at most so many samples, so that no case takes long.
-const MOST_SAMPLES: usize = 1 << 14;
+const MOST_SAMPLES: usize = 1 << 13;
 
 /// The length of a slice where the sides say none.
 const SOME: usize = 24;

@@ -1,4 +1,5 @@
-//! Wrong functions, to show that the fuzzer finds them: the setting RDP6_WRONG names one. Without it the library is right.
+//! Wrong functions, to show that the fuzzer finds them: the setting RDP6_WRONG names one. Without it the library is the port's.
+//! They have counters of edges, as the library has.
 
 use comparer::Library;
 use reliability::LIBRARY;
@@ -13,11 +14,10 @@ unsafe fn unpacked((src, len, dst, room, width, height): Plane) -> i64 {
     unsafe { (LIBRARY.unpack)(src, len, dst, room, width, height) }
 }
 
-/// Whether a body begins with four bytes that chance finds once in 2^32 tries. One is asked after the other, so that a fuzzer
-/// which is led by what is reached finds them one after the other.
+/// Whether a body begins with four bytes that chance finds once in 2^32 tries. A fuzzer that is told of comparisons finds them soon.
 unsafe fn is_rare(src: *const u8, len: usize) -> bool {
     // SAFETY: there are so many bytes.
-    unsafe { len > 4 && *src == 0x2D && *src.add(1) == 0xA7 && *src.add(2) == 0x51 && *src.add(3) == 0xC3 }
+    len > 4 && unsafe { src.cast::<u32>().read_unaligned() } == 0xC351_A72D
 }
 
 /// Answers one byte too many for a rare body.
