@@ -304,7 +304,10 @@ impl Lender {
         let lent = array::from_fn(|at| regions[at].lend(loans[at].bytes, side));
         let watch = |forbidden| {
             if let Some(watch) = self.watch {
-                regions.iter().zip(&loans).for_each(|(region, loan)| region.tell(watch, loan.bytes.len(), side, forbidden));
+                regions
+                    .iter()
+                    .zip(&loans)
+                    .for_each(|(region, loan)| region.tell(watch, loan.bytes.len(), side, forbidden));
             }
         };
         watch(true);

@@ -195,7 +195,11 @@ impl Answers {
     fn line(&self) -> String {
         let side = |name: &str, done: u64, refused: &[u64; 13]| {
             let numbers: Vec<usize> = (1..refused.len()).filter(|&number| refused[number] > 0).collect();
-            format!("{name} {} (done {done}, refused {})", done + refused.iter().sum::<u64>(), listed(refused, &numbers))
+            format!(
+                "{name} {} (done {done}, refused {})",
+                done + refused.iter().sum::<u64>(),
+                listed(refused, &numbers)
+            )
         };
         let inside = side("inside the domain", self.done, &self.refused);
         format!("{inside}; {}", side("outside", self.done_outside, &self.refused_outside))

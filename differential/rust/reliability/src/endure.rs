@@ -96,7 +96,10 @@ pub fn run(seconds: u64, seed: u64) -> Result<(), String> {
     let (begin, time) = (Instant::now(), Duration::from_secs(seconds));
     let mut run = Run::new(seed)?;
     let digest = run.reference.iter().fold(0xCBF2_9CE4_8422_2325, |sum, known| known.digest(sum));
-    println!("reference cases of each entry: {}, digest of what must come of them: {digest:016x}", REFERENCE / ENTRIES.len());
+    println!(
+        "reference cases of each entry: {}, digest of what must come of them: {digest:016x}",
+        REFERENCE / ENTRIES.len()
+    );
     let warm = run.until(begin + time / 20)?;
     let warmed = Holding::now();
     print_line("warm", &warm, &warmed);
@@ -129,7 +132,10 @@ fn summary(warm: &Share, slices: &[Share], warmed: Holding, took: Duration) -> R
         all.reference,
         all.fresh
     );
-    println!("endurance: resident memory {} KiB after the warm-up, {} KiB at the end; {} files open, then {}", warmed.resident, end.resident, warmed.files, end.files);
+    println!(
+        "endurance: resident memory {} KiB after the warm-up, {} KiB at the end; {} files open, then {}",
+        warmed.resident, end.resident, warmed.files, end.files
+    );
     println!("endurance: {first:.0} reference calls a second of processor time at the start, {last:.0} at the end");
     if end.resident > warmed.resident + SPARE_KIB {
         return Err(format!("endurance: FAILED: resident memory has grown by more than {SPARE_KIB} KiB"));

@@ -165,7 +165,7 @@ impl Told<'_> {
     fn pack(&mut self) -> Input {
         let (width, height) = self.sides();
         let len = self.length(samples(width, height));
-        let (by_packing, room) = (self.byte() % 2 == 0, self.byte());
+        let (by_packing, room) = (self.byte() & 1 == 0, self.byte());
         let seed = self.byte();
         let source = self.bytes(len);
         let packed = if is_inside(width, height) && by_packing && len >= width * height {
@@ -221,18 +221,18 @@ impl Told<'_> {
     }
 
     fn channels(&mut self, alpha: bool) -> Input {
-        let (rle, (width, height)) = (self.byte() % 4 != 0, self.sides());
+        let (rle, (width, height)) = (self.byte() & 3 != 0, self.sides());
         let lens: [usize; 4] = std::array::from_fn(|_| self.length(samples(width, height)));
-        let (by_packing, room, seed) = (self.byte() % 2 == 0, self.byte(), self.byte());
+        let (by_packing, room, seed) = (self.byte() & 1 == 0, self.byte(), self.byte());
         let colours = [self.bytes(lens[0]), self.bytes(lens[1]), self.bytes(lens[2])];
         let alpha = alpha.then(|| self.bytes(lens[3]));
         encoding(width, height, rle, Sources::Channels { colours, alpha }, (by_packing, room, seed))
     }
 
     fn bitmap(&mut self, alpha: bool) -> Input {
-        let (rle, (width, height)) = (self.byte() % 4 != 0, self.sides());
+        let (rle, (width, height)) = (self.byte() & 3 != 0, self.sides());
         let len = self.length(4 * samples(width, height));
-        let (by_packing, room, seed) = (self.byte() % 2 == 0, self.byte(), self.byte());
+        let (by_packing, room, seed) = (self.byte() & 1 == 0, self.byte(), self.byte());
         let pixels = self.bytes(len);
         encoding(width, height, rle, Sources::Pixels { pixels, alpha }, (by_packing, room, seed))
     }

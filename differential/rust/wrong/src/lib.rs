@@ -39,7 +39,7 @@ unsafe extern "C" fn read(src: *const u8, len: usize, dst: *mut u8, room: usize,
 
 /// Has the true function read a byte behind the body where no guard page follows it, so that only the sanitiser can see it.
 unsafe extern "C" fn behind(src: *const u8, len: usize, dst: *mut u8, room: usize, width: usize, height: usize) -> i64 {
-    let longer = usize::from(!src.is_null() && (src as usize + len) % 4096 != 0);
+    let longer = usize::from(!src.is_null() && (src as usize + len) & 4095 != 0);
     // SAFETY: none: that it is found is what is tested.
     unsafe { unpacked((src, len + longer, dst, room, width, height)) }
 }
