@@ -111,3 +111,31 @@ fn call_sizes(case: &Sizes) -> Answers {
         [work as i64, (pictures.image_size)(width, height) as i64]
     }
 }
+
+#[cfg(test)]
+mod tests {
+    use super::{Caller, Known};
+    use crate::mix::Mix;
+    use crate::LIBRARY;
+    use comparer::Comparer;
+
+    /// The library is held to every answer and to every byte: what is a little otherwise is found.
+    #[test]
+    fn what_is_otherwise_is_different() {
+        let (mut comparer, mut caller) = (Comparer::new(LIBRARY), Caller::default());
+        for (_, input) in Mix::new(3).take(400) {
+            let mut known = Known::of(&mut comparer, input).unwrap();
+            assert_eq!(caller.hold(&known), Ok(()));
+            known.answers[0] += 1;
+            assert!(caller.hold(&known).is_err());
+            known.answers[0] -= 1;
+            for slice in 0..known.afters.len() {
+                if let Some(at) = known.afters[slice].len().checked_sub(1) {
+                    known.afters[slice][at] ^= 1;
+                    assert!(caller.hold(&known).is_err());
+                    known.afters[slice][at] ^= 1;
+                }
+            }
+        }
+    }
+}
