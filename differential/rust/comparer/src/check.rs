@@ -4,7 +4,7 @@ use crate::bytes;
 use crate::case::{Case, Operation, Owned};
 use crate::encoding::check::{Encoders, Packed};
 use crate::input::{Input, View};
-use crate::lend::{Lender, Loan, Side, SIDES};
+use crate::lend::{Lender, Loan, Side, Watch, SIDES};
 use crate::picture::check::{Afters, Pictures};
 use crate::tally::{Judge, Kind, Tally};
 use original::Answer;
@@ -115,6 +115,29 @@ impl Comparer {
         let wanted = self.ask(case);
         self.tally.count(kind, judge, &wanted);
         self.hold_to(case, wanted, sides)
+    }
+
+    /// Has the bytes beside what is lent told to a sanitiser.
+    pub fn watch_by(&mut self, watch: Watch) {
+        self.lender.watch = Some(watch);
+    }
+
+    /// What must be answered and what the slices that are written to must hold then, without a call of the library; of the sizes
+    /// that of the work area. Demand 3 is no call.
+    pub fn wanted(&mut self, input: &Input) -> Result<(Answer, After), Box<Difference>> {
+        match input {
+            Input::Call(case) => {
+                let answer = self.ask(case.view());
+                Ok((answer, After(vec![("destination", self.wanted_after.clone())])))
+            }
+            Input::Picture(case) => Ok((self.ask_picture(case.view()), self.afters.wanted())),
+            Input::Sizes(case) => Ok((Answer::Done(case.work()), After(Vec::new()))),
+            Input::Encoding(case) => {
+                let answer = self.ask_encoding(case.view())?;
+                Ok((answer, self.packed.wanted_after()))
+            }
+            Input::Demand(_) => unreachable!("demand 3 is no call"),
+        }
     }
 
     /// Compares a case that is not to be counted.

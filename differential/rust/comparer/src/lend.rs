@@ -72,17 +72,17 @@ extern "C" fn on_fault(signal: c_int, info: *const Info, _context: *const c_void
         }
         protect(address / PAGE * PAGE, PAGE, PROT_READ_WRITE);
     } else {
-        tell_current();
+        tell_current("a fault far from what was lent");
         // The next attempt ends the program as it would have without this handler.
         set_handler(signal, 0, 0);
     }
 }
 
-/// Says which case faults far from all that is lent: the program cannot go on.
-fn tell_current() {
+/// Says which case faults, if a call is under way: the program cannot go on.
+pub fn tell_current(fault: &str) {
     // SAFETY: it is null, or the case of a call that has not come back.
     if let Some(case) = unsafe { CURRENT.get().as_ref() } {
-        eprintln!("a fault far from what was lent, in\n  {}", case.to_owned());
+        eprintln!("{fault}, in\n  {}", case.to_owned());
     }
 }
 
@@ -186,12 +186,23 @@ impl Region {
         self.slice(self.offset(len, side), len)
     }
 
-    /// Whether what is not lent still holds its canaries.
-    fn canaries_live(&self, len: usize, side: Side) -> bool {
-        let (mut at, end) = match side {
+    /// The part of the pages that is not lent.
+    fn beside(&self, len: usize, side: Side) -> (usize, usize) {
+        match side {
             Side::Start => (len, self.len),
             Side::End => (0, self.len - len),
-        };
+        }
+    }
+
+    /// Tells of that part.
+    fn tell(&self, watch: Watch, len: usize, side: Side, forbidden: bool) {
+        let (from, to) = self.beside(len, side);
+        watch(self.start.wrapping_add(from), to - from, forbidden);
+    }
+
+    /// Whether what is not lent still holds its canaries.
+    fn canaries_live(&self, len: usize, side: Side) -> bool {
+        let (mut at, end) = self.beside(len, side);
         while at < end {
             let to = end.min((at / PAGE + 1) * PAGE);
             if self.slice(at, to - at) != &CANARIES.0[at % PAGE..][..to - at] {
@@ -252,10 +263,15 @@ impl<'a> Loan<'a> {
 /// No call has more slices.
 const SLICES: usize = 5;
 
+/// Told of bytes beside a lent slice, in its own pages, before a call (true) and after it (false). A sanitiser can then forbid
+/// them to the byte where the forbidden pages do not reach.
+pub type Watch = fn(at: *const u8, len: usize, forbidden: bool);
+
 /// All that can be lent: for each slice of a call, the regions by number of pages.
 #[derive(Default)]
 pub struct Lender {
     regions: [Vec<Option<Region>>; SLICES],
+    pub watch: Option<Watch>,
 }
 
 /// Slices of more pages than this share regions of twice the size, or there would be one for every length of a large plane.
@@ -286,10 +302,20 @@ impl Lender {
         let regions: [&Region; N] =
             array::from_fn(|at| region_for(slots.next().expect("a slot for each slice"), loans[at].bytes.len()));
         let lent = array::from_fn(|at| regions[at].lend(loans[at].bytes, side));
+        let watch = |forbidden| {
+            if let Some(watch) = self.watch {
+                regions
+                    .iter()
+                    .zip(&loans)
+                    .for_each(|(region, loan)| region.tell(watch, loan.bytes.len(), side, forbidden));
+            }
+        };
+        watch(true);
         TOUCHED.set(0);
         CURRENT.set((&raw const case).cast());
         let answer = function(lent);
         CURRENT.set(ptr::null());
+        watch(false);
         let harm = harm_done(&regions, &loans, side);
         for (region, loan) in regions.into_iter().zip(loans) {
             let len = loan.bytes.len();

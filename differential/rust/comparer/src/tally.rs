@@ -191,6 +191,20 @@ impl Answers {
         self.inside() + self.outside()
     }
 
+    /// The same in one line, without the refusals that did not come.
+    fn line(&self) -> String {
+        let side = |name: &str, done: u64, refused: &[u64; 13]| {
+            let numbers: Vec<usize> = (1..refused.len()).filter(|&number| refused[number] > 0).collect();
+            format!(
+                "{name} {} (done {done}, refused {})",
+                done + refused.iter().sum::<u64>(),
+                listed(refused, &numbers)
+            )
+        };
+        let inside = side("inside the domain", self.done, &self.refused);
+        format!("{inside}; {}", side("outside", self.done_outside, &self.refused_outside))
+    }
+
     /// The lines on how they came out: what a done case has done, the refusals inside the domain and outside it.
     fn write(&self, f: &mut fmt::Formatter<'_>, done: &str, inside: &[usize], outside: &[usize]) -> fmt::Result {
         writeln!(f, "  inside the domain, held to the Rust: {}", self.inside())?;
@@ -231,6 +245,11 @@ impl Tally {
 
     pub fn total(&self) -> u64 {
         self.kinds.iter().sum()
+    }
+
+    /// How the cases of this kind's part came out, in a line.
+    pub fn came_out(&self, kind: Kind) -> String {
+        self.parts[KINDS[kind as usize].1 as usize].line()
     }
 
     /// The lines of one part.

@@ -64,6 +64,11 @@ impl Packed {
         &self.wanted[1..]
     }
 
+    /// What the destination must hold, as the case that was asked last has it.
+    pub(crate) fn wanted_after(&self) -> After {
+        destination(self.wanted())
+    }
+
     fn fault(&self, same_answer: bool) -> Option<String> {
         if !same_answer {
             Some("the answer".to_owned())
@@ -104,7 +109,7 @@ impl Comparer {
 
     /// What must be answered; `packed.wanted` gets what the destination must hold. Where there are samples too many document 01
     /// says which are used, and the Rust what they make. The Rust itself is held to the record that document 01 has sent.
-    fn ask_encoding(&mut self, case: Encoding<&[u8]>) -> Result<Answer, Box<Difference>> {
+    pub(crate) fn ask_encoding(&mut self, case: Encoding<&[u8]>) -> Result<Answer, Box<Difference>> {
         let wanted = &mut self.packed.wanted;
         wanted.clear();
         wanted.push(0);

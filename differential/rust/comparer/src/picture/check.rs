@@ -63,6 +63,11 @@ pub(crate) struct Afters {
 }
 
 impl Afters {
+    /// What the two must hold, as the case that was asked last has it.
+    pub(crate) fn wanted(&self) -> After {
+        self.wanted.after()
+    }
+
     /// Asks the Rust. It gets the whole work area and may give back a shorter one, behind which nothing has changed; its image
     /// is what it appends, and the rest of ours is as it was.
     fn ask_rust(&mut self, case: Picture<'_>) -> Answer {
@@ -110,7 +115,7 @@ impl Comparer {
     }
 
     /// What must be answered; `afters.wanted` gets what the slices must hold.
-    fn ask_picture(&mut self, case: Picture<'_>) -> Answer {
+    pub(crate) fn ask_picture(&mut self, case: Picture<'_>) -> Answer {
         let wanted = &mut self.afters.wanted;
         wanted.work.clear();
         wanted.work.extend_from_slice(case.work);

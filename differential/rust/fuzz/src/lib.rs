@@ -1,0 +1,80 @@
+//! What libFuzzer calls with each of its inputs. The input tells a case of one entry, which the setting RDP6_ENTRY names; the case
+//! is held to the Rust inside the domain and to document 01 outside it, on slices at either end of guarded pages.
+
+mod edges;
+mod sanitizer;
+
+use comparer::shrink::shrink;
+use comparer::tally::Kind;
+use comparer::Comparer;
+use edges::Edges;
+use reliability::entry::Entry;
+use reliability::{compare, kind_of, told};
+use std::env;
+use std::ffi::c_int;
+use std::process::{abort, exit};
+use std::ptr;
+use std::sync::atomic::{AtomicPtr, Ordering};
+
+struct State {
+    entry: Entry,
+    comparer: Comparer,
+    edges: Edges,
+    /// Under which the entry's cases are counted, once there was one.
+    kind: Option<Kind>,
+}
+
+/// Made once at the start and kept to the end, for the report.
+static STATE: AtomicPtr<State> = AtomicPtr::new(ptr::null_mut());
+
+extern "C" {
+    fn atexit(work: extern "C" fn()) -> c_int;
+}
+
+fn entry() -> Entry {
+    let name = env::var("RDP6_ENTRY").unwrap_or_default();
+    Entry::of_name(&name).unwrap_or_else(|| {
+        eprintln!("RDP6_ENTRY names no entry to fuzz: {name:?}");
+        exit(2)
+    })
+}
+
+#[no_mangle]
+pub extern "C" fn LLVMFuzzerInitialize(_count: *mut c_int, _words: *mut *mut *mut u8) -> c_int {
+    let mut comparer = Comparer::new(wrong::library());
+    comparer.watch_by(sanitizer::watch);
+    let state = State { entry: entry(), comparer, edges: Edges::new(), kind: None };
+    STATE.store(Box::into_raw(Box::new(state)), Ordering::Relaxed);
+    // SAFETY: a function of this library, which stays.
+    unsafe { atexit(report) };
+    0
+}
+
+/// # Safety
+///
+/// libFuzzer lends `len` bytes for the call, and calls from one thread.
+#[no_mangle]
+pub unsafe extern "C" fn LLVMFuzzerTestOneInput(data: *const u8, len: usize) -> c_int {
+    // SAFETY: made at the start, and used by one thread alone.
+    let state = unsafe { &mut *STATE.load(Ordering::Relaxed) };
+    // SAFETY: lent for this call; an empty slice can be NULL.
+    let bytes = if len == 0 { &[] } else { unsafe { std::slice::from_raw_parts(data, len) } };
+    let input = told::case(state.entry, bytes);
+    state.kind = Some(kind_of(&input));
+    if let Err(difference) = compare(&mut state.comparer, &input) {
+        eprintln!("{}", shrink(&mut state.comparer, difference));
+        abort();
+    }
+    state.edges.note();
+    0
+}
+
+/// What was tried, once libFuzzer has ended.
+extern "C" fn report() {
+    // SAFETY: made at the start, and nothing else uses it any more.
+    let state = unsafe { &mut *STATE.load(Ordering::Relaxed) };
+    let (name, tally) = (state.entry.name(), &state.comparer.tally);
+    let came_out = state.kind.map_or(String::new(), |kind| tally.came_out(kind));
+    println!("fuzz: {name}: {} inputs, 0 different; {came_out}", tally.total());
+    println!("fuzz: {name}: {}", state.edges.report());
+}

@@ -1,0 +1,57 @@
+//! A fuzzer's inputs as files: what it begins with, and what it has found, run through this library.
+
+use comparer::shrink::shrink;
+use comparer::Comparer;
+use reliability::entry::{Entry, ENTRIES};
+use reliability::mix::Mix;
+use reliability::{compare, kind_of, told, LIBRARY};
+use std::fs;
+use std::path::Path;
+
+/// How many inputs each entry begins with.
+const SEEDS: usize = 64;
+
+fn failed(what: &Path, why: &std::io::Error) -> String {
+    format!("{}: {why}", what.display())
+}
+
+pub fn write_seeds(folder: &Path) -> Result<(), String> {
+    let mut mix = Mix::new(1);
+    for entry in ENTRIES {
+        let folder = folder.join(entry.name());
+        fs::create_dir_all(&folder).map_err(|why| failed(&folder, &why))?;
+        for at in 0..SEEDS {
+            let file = folder.join(format!("seed-{at:02}"));
+            fs::write(&file, mix.bytes()).map_err(|why| failed(&file, &why))?;
+        }
+    }
+    Ok(())
+}
+
+pub fn replay(folder: &Path) -> Result<(), String> {
+    let mut all = 0;
+    for entry in ENTRIES {
+        all += replay_entry(entry, &folder.join(entry.name()))?;
+    }
+    println!("replay: {all} inputs, 0 different");
+    Ok(())
+}
+
+fn replay_entry(entry: Entry, folder: &Path) -> Result<u64, String> {
+    let files = fs::read_dir(folder).map_err(|why| failed(folder, &why))?;
+    let mut paths: Vec<_> = files.filter_map(|file| file.ok().map(|file| file.path())).collect();
+    paths.sort();
+    let mut comparer = Comparer::new(LIBRARY);
+    let mut kind = None;
+    for path in paths {
+        let bytes = fs::read(&path).map_err(|why| failed(&path, &why))?;
+        let input = told::case(entry, &bytes);
+        kind = Some(kind_of(&input));
+        if let Err(difference) = compare(&mut comparer, &input) {
+            return Err(format!("replay: FAILED at {}\n{}", path.display(), shrink(&mut comparer, difference)));
+        }
+    }
+    let came_out = kind.map_or(String::new(), |kind| comparer.tally.came_out(kind));
+    println!("replay: {}: {came_out}", entry.name());
+    Ok(comparer.tally.total())
+}
