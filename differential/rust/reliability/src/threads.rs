@@ -11,6 +11,9 @@ use std::time::{Duration, Instant};
 /// The cases of each thread, and those whose sources all threads read.
 const CASES: usize = 2_000;
 
+/// The stack of each thread, behind which lies a page that may not be touched: a call that took more would end the program.
+const STACK: usize = 64 << 10;
+
 /// Cases that the library, called by this thread alone, does as it must.
 fn held_alone(seed: u64) -> Result<Vec<Known>, String> {
     let mut comparer = Comparer::new(LIBRARY);
@@ -47,10 +50,11 @@ fn at_once(pools: &[Vec<Known>], common: &[Known], time: Duration) -> Result<Vec
             .enumerate()
             .map(|(at, own)| {
                 let start = &start;
-                scope.spawn(move || {
+                let work = move || {
                     start.wait();
                     one_thread(own, common, at * 97, Instant::now() + time)
-                })
+                };
+                thread::Builder::new().stack_size(STACK).spawn_scoped(scope, work).expect("a thread")
             })
             .collect();
         threads.into_iter().map(|thread| thread.join().expect("no panic")).collect()
@@ -60,7 +64,7 @@ fn at_once(pools: &[Vec<Known>], common: &[Known], time: Duration) -> Result<Vec
 pub fn run(seconds: u64, seed: u64) -> Result<(), String> {
     let cores = thread::available_parallelism().map_or(1, usize::from);
     let counts = [2, 4 * cores.max(2)];
-    println!("threads: {seconds} seconds, seed {seed}, {cores} processors");
+    println!("threads: {seconds} seconds, seed {seed}, {cores} processors, {} KiB of stack each", STACK >> 10);
     let common = held_alone(seed)?;
     let pools = (1..=counts[1] as u64).map(|at| held_alone(seed + at)).collect::<Result<Vec<_>, _>>()?;
     println!("threads: one thread alone: {} cases, 0 different", CASES * (1 + pools.len()));
