@@ -4,20 +4,15 @@ ghost use Prim.Native.Nat.{_+_, _≤_};
 ghost use lib.ListN.{length, take, drop};
 ghost use Rattle.rle_format.specs.Slice.{putAt};
 
-// Copies four bytes of src, from index `from` on, to dst from index `at` on. All are read before the first is written, because the
-// compiler does not know that the slices are apart: it is then one load and one store.
+// Copies four bytes of src, from index `from` on, to dst from index `at` on. They go by way of an array, so that all are read before the first
+// is written: the compiler does not know that the slices are apart, but it does know it of the array. It is then one load and one store.
 fn copy_4(src: &[u8], from: usize, dst: &mut [u8], at: usize)
     requires { ⌜ (from + 4 ≤ length (now src)) × (at + 4 ≤ length (now dst)) ⌝ }
     ensures { λ _. ⌜ now (dst .exit) ≡ putAt (now (dst .entry)) at (take 4 (drop from (now (src .entry)))) ⌝ }
 {
-    let a = src[from];
-    let b = src[from + 1];
-    let c = src[from + 2];
-    let d = src[from + 3];
-    dst[at] = a;
-    dst[at + 1] = b;
-    dst[at + 2] = c;
-    dst[at + 3] = d;
+    let mut four = [0u8; 4];
+    bytes::copy(&src[from..from + 4], &mut four[0..]);
+    bytes::copy(&four[0..], &mut dst[at..]);
 }
 
 // Copies eight bytes likewise.
@@ -25,22 +20,9 @@ fn copy_8(src: &[u8], from: usize, dst: &mut [u8], at: usize)
     requires { ⌜ (from + 8 ≤ length (now src)) × (at + 8 ≤ length (now dst)) ⌝ }
     ensures { λ _. ⌜ now (dst .exit) ≡ putAt (now (dst .entry)) at (take 8 (drop from (now (src .entry)))) ⌝ }
 {
-    let a = src[from];
-    let b = src[from + 1];
-    let c = src[from + 2];
-    let d = src[from + 3];
-    let e = src[from + 4];
-    let f = src[from + 5];
-    let g = src[from + 6];
-    let h = src[from + 7];
-    dst[at] = a;
-    dst[at + 1] = b;
-    dst[at + 2] = c;
-    dst[at + 3] = d;
-    dst[at + 4] = e;
-    dst[at + 5] = f;
-    dst[at + 6] = g;
-    dst[at + 7] = h;
+    let mut eight = [0u8; 8];
+    bytes::copy(&src[from..from + 8], &mut eight[0..]);
+    bytes::copy(&eight[0..], &mut dst[at..]);
 }
 
 // Copies a segment's raw bytes to dst from index `at` on, and writes no byte beside them: four or more by two copies of 4 or of 8, of the

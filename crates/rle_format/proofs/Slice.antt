@@ -272,25 +272,23 @@ over-part d now next s from i k h e₁ e₂ =
     ∙ ap (over d) (sym (take-add i k (drop from s)))
 
 -- four to index `at` on, which were all read before the first was written
-module _ (d s : List ℕ) (from at : ℕ) where
-  pub put-four : (v₀ v₁ v₂ v₃ : ℕ) → from + 4 ≤ length s → at + 4 ≤ length d
-      → v₀ ≡ getD s from 0 → v₁ ≡ getD s (from + 1) 0 → v₂ ≡ getD s (from + 2) 0 → v₃ ≡ getD s (from + 3) 0
-      → set (set (set (set d at v₀) (at + 1) v₁) (at + 2) v₂) (at + 3) v₃ ≡ putAt d at (take 4 (drop from s))
-  put-four v₀ v₁ v₂ v₃ h k e₀ e₁ e₂ e₃ =
-      let first : v₀ ≡ getD s (from + 0) 0 = e₀ ∙ ap (λ (n : ℕ). getD s n 0) (sym (add-zero from)) in
-      let one = put-copy d d s from at 0 at v₀ (sym (putAt-none d at)) (omega arith) (omega arith) (omega arith) first in
-      let two = put-copy d _ s from at 1 (at + 1) v₁ one refl (omega arith) (omega arith) e₁ in
-      let three = put-copy d _ s from at 2 (at + 2) v₂ two refl (omega arith) (omega arith) e₂ in
-      put-copy d _ s from at 3 (at + 3) v₃ three refl (omega arith) (omega arith) e₃
+pub put-four : (d s : List ℕ) (from at v₀ v₁ v₂ v₃ : ℕ) → from + 4 ≤ length s → at + 4 ≤ length d
+    → v₀ ≡ getD s from 0 → v₁ ≡ getD s (from + 1) 0 → v₂ ≡ getD s (from + 2) 0 → v₃ ≡ getD s (from + 3) 0
+    → set (set (set (set d at v₀) (at + 1) v₁) (at + 2) v₂) (at + 3) v₃ ≡ putAt d at (take 4 (drop from s))
+put-four d s from at v₀ v₁ v₂ v₃ h k e₀ e₁ e₂ e₃ =
+    let first : v₀ ≡ getD s (from + 0) 0 = e₀ ∙ ap (λ (n : ℕ). getD s n 0) (sym (add-zero from)) in
+    let one = put-copy d d s from at 0 at v₀ (sym (putAt-none d at)) (omega arith) (omega arith) (omega arith) first in
+    let two = put-copy d _ s from at 1 (at + 1) v₁ one refl (omega arith) (omega arith) e₁ in
+    let three = put-copy d _ s from at 2 (at + 2) v₂ two refl (omega arith) (omega arith) e₂ in
+    put-copy d _ s from at 3 (at + 3) v₃ three refl (omega arith) (omega arith) e₃
 
-  -- and eight
-  pub put-eight : from + 8 ≤ length s → at + 8 ≤ length d
-      → set (set (set (set (set (set (set (set d at (getD s from 0)) (at + 1) (getD s (from + 1) 0)) (at + 2) (getD s (from + 2) 0)) (at + 3) (getD s (from + 3) 0))
-      (at + 4) (getD s (from + 4) 0)) (at + 5) (getD s (from + 5) 0)) (at + 6) (getD s (from + 6) 0)) (at + 7) (getD s (from + 7) 0)
-      ≡ putAt d at (take 8 (drop from s))
-  put-eight h k =
-      let four = put-four _ _ _ _ (omega arith) (omega arith) refl refl refl refl in
-      let five = put-copy d _ s from at 4 (at + 4) _ four refl (omega arith) (omega arith) refl in
-      let six = put-copy d _ s from at 5 (at + 5) _ five refl (omega arith) (omega arith) refl in
-      let seven = put-copy d _ s from at 6 (at + 6) _ six refl (omega arith) (omega arith) refl in
-      put-copy d _ s from at 7 (at + 7) _ seven refl (omega arith) (omega arith) refl
+-- k bytes of s, p, copied to an array of as many places, which is then q; and from there to the part of d from `at` on. By the words of the
+-- kit's `bytes::copy`
+pub copied-through : (d s p q got left array : List ℕ) (from at k : ℕ) → from + k ≤ length s → length array ≡ k → p ≡ take k (drop from s)
+    → got ≡ take (length p) p ++ drop (length p) array → q ≡ got → left ≡ take (length q) q ++ drop (length q) (tail d at)
+    → put-back d at left ≡ putAt d at (take k (drop from s))
+copied-through d s p q got left array from at k h n ep eg eq el =
+    let rest = length-drop from s in
+    let lp : length p ≡ k = ap length ep ∙ length-take-le k (drop from s) (omega arith) in
+    let whole : got ≡ p = copied array p got eg ∙ over-all array p (omega arith) in
+    lent-over d left q at (copied (tail d at) q left el) ∙ ap (putAt d at) (eq ∙ whole ∙ ep)

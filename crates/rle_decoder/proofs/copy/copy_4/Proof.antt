@@ -1,79 +1,91 @@
--- `copy_4`: four stores of what was read, one behind the other. Assumes nothing.
-use mathlib.Core.Path.{refl}
-use Rattle.rle_format.proofs.Slice.{put-four}
-use lib.ListN.{length-set}
+-- `copy_4`: the bytes go to the array, and from there to the slice. Assumes nothing.
+use mathlib.Core.Path.{_≡_, refl, ap, _∙_}
+use mathlib.Core.List.{append-nil}
+use Prim.Native.Nat.{ℕ, _+_, _-_}
 use native.Mathlib.Omega.{arith}
+use lib.ListN.{length, take, drop, replicate}
+use lib.Seq.{take-all}
+use Rattle.rle_format.proofs.Slice.{copied-through}
 use borrow.Author.Needs.{needs}
 use Rattle.rle_decoder.proofs.copy.copy_4.Statement.{statement}
 use Rattle.rle_decoder.proofs.copy.copy_4.Tie as tie
 
-shared-slice-read-a : tie.Need-shared-slice-read-a
-shared-slice-read-a c = search needs
+add-copy : tie.Need-add-copy
+add-copy c = search needs
 
-add-b : tie.Need-add-b
-add-b c = search needs
+sub-copy : tie.Need-sub-copy
+sub-copy c = search needs
 
-shared-slice-read-b : tie.Need-shared-slice-read-b
-shared-slice-read-b c = search needs
+part-copy-start : tie.Need-part-copy-start
+part-copy-start c = search needs
 
-add-c : tie.Need-add-c
-add-c c = search needs
+part-copy-end : tie.Need-part-copy-end
+part-copy-end c = search needs
 
-shared-slice-read-c : tie.Need-shared-slice-read-c
-shared-slice-read-c c = search needs
+sub-copy-2 : tie.Need-sub-copy-2
+sub-copy-2 c = search needs
 
-add-d : tie.Need-add-d
-add-d c = search needs
+part-four-start : tie.Need-part-four-start
+part-four-start c = search needs
 
-shared-slice-read-d : tie.Need-shared-slice-read-d
-shared-slice-read-d c = search needs
+part-four-end : tie.Need-part-four-end
+part-four-end c = search needs
 
-slice-write-dst : tie.Need-slice-write-dst
-slice-write-dst c = search needs
+copy-requires : tie.Need-copy-requires
+copy-requires c κs = search needs
 
-add-dst : tie.Need-add-dst
-add-dst c = search needs
+sub-copy-3 : tie.Need-sub-copy-3
+sub-copy-3 c = search needs
 
-slice-write-dst-2 : tie.Need-slice-write-dst-2
-slice-write-dst-2 c = simp length-set (omega arith)
+part-copy-start-2 : tie.Need-part-copy-start-2
+part-copy-start-2 c = search needs
 
-add-dst-2 : tie.Need-add-dst-2
-add-dst-2 c = search needs
+part-copy-end-2 : tie.Need-part-copy-end-2
+part-copy-end-2 c = let k = c .before .before .copy in omega (arith, ap length (append-nil (k .last .1 .0)), k .kept .1 .0)
 
-slice-write-dst-3 : tie.Need-slice-write-dst-3
-slice-write-dst-3 c = simp length-set (omega arith)
+sub-copy-4 : tie.Need-sub-copy-4
+sub-copy-4 c = search needs
 
-add-dst-3 : tie.Need-add-dst-3
-add-dst-3 c = search needs
+part-copy-start-3 : tie.Need-part-copy-start-3
+part-copy-start-3 c = search needs
 
-slice-write-dst-4 : tie.Need-slice-write-dst-4
-slice-write-dst-4 c = simp length-set (omega arith)
+part-copy-end-3 : tie.Need-part-copy-end-3
+part-copy-end-3 c = search needs
+
+copy-requires-2 : tie.Need-copy-requires-2
+copy-requires-2 c κs = search needs
 
 same-length : tie.Need-same-length
-same-length c = simp length-set
+same-length c = search needs
 
 returns : tie.Need-returns
 returns c =
-    let a = c .before .before .before .before .args in
-    put-four (a .dst .now) (a .src .now) (a .from) (a .at) _ _ _ _ (omega arith) (omega arith) refl refl refl refl
+    let a = c .before .before .before .before .before .before .before .before .before .before .before .before .args in
+    let one = c .before .before .before .before .before .before .before .copy in
+    let two = c .before .before .copy2 in
+    let n : a .from + 4 - a .from ≡ 4 = omega arith in
+    let got = one .last .1 .0 in
+    copied-through (a .dst .now) (a .src .now) _ _ got (two .last .1 .0) (replicate 4 0) (a .from) (a .at) 4 (omega arith) refl (ap (λ (k : ℕ). take k (drop (a .from) (a .src .now))) n)
+    (one .ensures .1) (ap (take 4) (append-nil got) ∙ take-all 4 got (omega (arith, one .kept .1 .0))) (two .ensures .1)
 
 pub copy-4-spec : {M : Type 1} → statement M
 copy-4-spec =
     tie.close
     (tie.spec
-    shared-slice-read-a
-    add-b
-    shared-slice-read-b
-    add-c
-    shared-slice-read-c
-    add-d
-    shared-slice-read-d
-    slice-write-dst
-    add-dst
-    slice-write-dst-2
-    add-dst-2
-    slice-write-dst-3
-    add-dst-3
-    slice-write-dst-4
+    add-copy
+    sub-copy
+    part-copy-start
+    part-copy-end
+    sub-copy-2
+    part-four-start
+    part-four-end
+    copy-requires
+    sub-copy-3
+    part-copy-start-2
+    part-copy-end-2
+    sub-copy-4
+    part-copy-start-3
+    part-copy-end-3
+    copy-requires-2
     same-length
     returns)

@@ -1,142 +1,91 @@
--- `copy_8`: eight stores of what was read, one behind the other. Assumes nothing.
-use Rattle.rle_format.proofs.Slice.{put-eight}
-use lib.ListN.{length-set}
+-- `copy_8`: the bytes go to the array, and from there to the slice. Assumes nothing.
+use mathlib.Core.Path.{_≡_, refl, ap, _∙_}
+use mathlib.Core.List.{append-nil}
+use Prim.Native.Nat.{ℕ, _+_, _-_}
 use native.Mathlib.Omega.{arith}
+use lib.ListN.{length, take, drop, replicate}
+use lib.Seq.{take-all}
+use Rattle.rle_format.proofs.Slice.{copied-through}
 use borrow.Author.Needs.{needs}
 use Rattle.rle_decoder.proofs.copy.copy_8.Statement.{statement}
 use Rattle.rle_decoder.proofs.copy.copy_8.Tie as tie
 
-shared-slice-read-a : tie.Need-shared-slice-read-a
-shared-slice-read-a c = search needs
+add-copy : tie.Need-add-copy
+add-copy c = search needs
 
-add-b : tie.Need-add-b
-add-b c = search needs
+sub-copy : tie.Need-sub-copy
+sub-copy c = search needs
 
-shared-slice-read-b : tie.Need-shared-slice-read-b
-shared-slice-read-b c = search needs
+part-copy-start : tie.Need-part-copy-start
+part-copy-start c = search needs
 
-add-c : tie.Need-add-c
-add-c c = search needs
+part-copy-end : tie.Need-part-copy-end
+part-copy-end c = search needs
 
-shared-slice-read-c : tie.Need-shared-slice-read-c
-shared-slice-read-c c = search needs
+sub-copy-2 : tie.Need-sub-copy-2
+sub-copy-2 c = search needs
 
-add-d : tie.Need-add-d
-add-d c = search needs
+part-eight-start : tie.Need-part-eight-start
+part-eight-start c = search needs
 
-shared-slice-read-d : tie.Need-shared-slice-read-d
-shared-slice-read-d c = search needs
+part-eight-end : tie.Need-part-eight-end
+part-eight-end c = search needs
 
-add-e : tie.Need-add-e
-add-e c = search needs
+copy-requires : tie.Need-copy-requires
+copy-requires c κs = search needs
 
-shared-slice-read-e : tie.Need-shared-slice-read-e
-shared-slice-read-e c = search needs
+sub-copy-3 : tie.Need-sub-copy-3
+sub-copy-3 c = search needs
 
-add-f : tie.Need-add-f
-add-f c = search needs
+part-copy-start-2 : tie.Need-part-copy-start-2
+part-copy-start-2 c = search needs
 
-shared-slice-read-f : tie.Need-shared-slice-read-f
-shared-slice-read-f c = search needs
+part-copy-end-2 : tie.Need-part-copy-end-2
+part-copy-end-2 c = let k = c .before .before .copy in omega (arith, ap length (append-nil (k .last .1 .0)), k .kept .1 .0)
 
-add-g : tie.Need-add-g
-add-g c = search needs
+sub-copy-4 : tie.Need-sub-copy-4
+sub-copy-4 c = search needs
 
-shared-slice-read-g : tie.Need-shared-slice-read-g
-shared-slice-read-g c = search needs
+part-copy-start-3 : tie.Need-part-copy-start-3
+part-copy-start-3 c = search needs
 
-add-h : tie.Need-add-h
-add-h c = search needs
+part-copy-end-3 : tie.Need-part-copy-end-3
+part-copy-end-3 c = search needs
 
-shared-slice-read-h : tie.Need-shared-slice-read-h
-shared-slice-read-h c = search needs
-
-slice-write-dst : tie.Need-slice-write-dst
-slice-write-dst c = search needs
-
-add-dst : tie.Need-add-dst
-add-dst c = search needs
-
-slice-write-dst-2 : tie.Need-slice-write-dst-2
-slice-write-dst-2 c = simp length-set (omega arith)
-
-add-dst-2 : tie.Need-add-dst-2
-add-dst-2 c = search needs
-
-slice-write-dst-3 : tie.Need-slice-write-dst-3
-slice-write-dst-3 c = simp length-set (omega arith)
-
-add-dst-3 : tie.Need-add-dst-3
-add-dst-3 c = search needs
-
-slice-write-dst-4 : tie.Need-slice-write-dst-4
-slice-write-dst-4 c = simp length-set (omega arith)
-
-add-dst-4 : tie.Need-add-dst-4
-add-dst-4 c = search needs
-
-slice-write-dst-5 : tie.Need-slice-write-dst-5
-slice-write-dst-5 c = simp length-set (omega arith)
-
-add-dst-5 : tie.Need-add-dst-5
-add-dst-5 c = search needs
-
-slice-write-dst-6 : tie.Need-slice-write-dst-6
-slice-write-dst-6 c = simp length-set (omega arith)
-
-add-dst-6 : tie.Need-add-dst-6
-add-dst-6 c = search needs
-
-slice-write-dst-7 : tie.Need-slice-write-dst-7
-slice-write-dst-7 c = simp length-set (omega arith)
-
-add-dst-7 : tie.Need-add-dst-7
-add-dst-7 c = search needs
-
-slice-write-dst-8 : tie.Need-slice-write-dst-8
-slice-write-dst-8 c = simp length-set (omega arith)
+copy-requires-2 : tie.Need-copy-requires-2
+copy-requires-2 c κs = search needs
 
 same-length : tie.Need-same-length
-same-length c = simp length-set
+same-length c = search needs
 
 returns : tie.Need-returns
 returns c =
-    let a = c .before .before .before .before .before .before .before .before .args in
-    put-eight (a .dst .now) (a .src .now) (a .from) (a .at) (omega arith) (omega arith)
+    let a = c .before .before .before .before .before .before .before .before .before .before .before .before .args in
+    let one = c .before .before .before .before .before .before .before .copy in
+    let two = c .before .before .copy2 in
+    let n : a .from + 8 - a .from ≡ 8 = omega arith in
+    let got = one .last .1 .0 in
+    copied-through (a .dst .now) (a .src .now) _ _ got (two .last .1 .0) (replicate 8 0) (a .from) (a .at) 8 (omega arith) refl (ap (λ (k : ℕ). take k (drop (a .from) (a .src .now))) n)
+    (one .ensures .1) (ap (take 8) (append-nil got) ∙ take-all 8 got (omega (arith, one .kept .1 .0))) (two .ensures .1)
 
 pub copy-8-spec : {M : Type 1} → statement M
 copy-8-spec =
     tie.close
     (tie.spec
-    shared-slice-read-a
-    add-b
-    shared-slice-read-b
-    add-c
-    shared-slice-read-c
-    add-d
-    shared-slice-read-d
-    add-e
-    shared-slice-read-e
-    add-f
-    shared-slice-read-f
-    add-g
-    shared-slice-read-g
-    add-h
-    shared-slice-read-h
-    slice-write-dst
-    add-dst
-    slice-write-dst-2
-    add-dst-2
-    slice-write-dst-3
-    add-dst-3
-    slice-write-dst-4
-    add-dst-4
-    slice-write-dst-5
-    add-dst-5
-    slice-write-dst-6
-    add-dst-6
-    slice-write-dst-7
-    add-dst-7
-    slice-write-dst-8
+    add-copy
+    sub-copy
+    part-copy-start
+    part-copy-end
+    sub-copy-2
+    part-eight-start
+    part-eight-end
+    copy-requires
+    sub-copy-3
+    part-copy-start-2
+    part-copy-end-2
+    sub-copy-4
+    part-copy-start-3
+    part-copy-end-3
+    copy-requires-2
     same-length
     returns)
