@@ -63,6 +63,7 @@ mod ffi;
 mod header;
 mod refusal;
 pub mod rle;
+mod told;
 
 pub use bitmap_stream::decoder::{decode, image_size, work_size, BitmapDecodeError, BitmapStreamDecoder};
 pub use bitmap_stream::encoder::{

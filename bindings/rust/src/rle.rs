@@ -1,6 +1,7 @@
 //! RLE planes (MS-RDPEGDI 3.1.9.2).
 
 use crate::ffi;
+use crate::told::told;
 use crate::Refusal;
 
 /// The name of the original's error. Here a refusal of [`decompress_8bpp_plane`]: 1, 2, 7, 8, 9 or 10.
@@ -38,7 +39,7 @@ pub fn decompress_8bpp_plane(src: &[u8], dst: &mut [u8], width: usize, height: u
     // SAFETY: both slices are lent for the call with their true lengths, and nothing keeps them; `dst`, a `&mut`, overlaps no other.
     let answer =
         unsafe { ffi::rdp6_decompress_8bpp_plane(src.as_ptr(), src.len(), dst.as_mut_ptr(), dst.len(), width, height) };
-    ffi::told(answer)
+    told(answer)
 }
 
 /// Packs the first `width` × `height` samples of `src`, row by row from the top, as an RLE plane into the first bytes of `dst`, and answers
@@ -69,5 +70,5 @@ pub fn compress_8bpp_plane(src: &[u8], dst: &mut [u8], width: usize, height: usi
     // SAFETY: both slices are lent for the call with their true lengths, and nothing keeps them; `dst`, a `&mut`, overlaps no other.
     let answer =
         unsafe { ffi::rdp6_compress_8bpp_plane(src.as_ptr(), src.len(), dst.as_mut_ptr(), dst.len(), width, height) };
-    ffi::told(answer)
+    told(answer)
 }

@@ -4,6 +4,7 @@ use std::fmt;
 
 use crate::ffi;
 use crate::header::Definition;
+use crate::told::told;
 use crate::{BitmapStreamHeader, Refusal};
 
 /// The name of the original's error. Here a refusal of [`decode`] or of [`BitmapStreamDecoder`]: 1 to 9.
@@ -78,7 +79,7 @@ pub fn decode(
             height,
         )
     };
-    ffi::told(answer)
+    told(answer)
 }
 
 /// The least length of the work area that [`decode`] asks for: the bytes of the three colour planes, or 0 if the picture is raw. It is

@@ -1,6 +1,7 @@
 //! Packing a picture.
 
 use crate::ffi;
+use crate::told::told;
 use crate::{BitmapStreamHeader, ColorPlaneDefinition, Refusal};
 
 /// The name of the original's error. Here a refusal of [`BitmapStreamEncoder`]: 1, 2, 11 or 12.
@@ -101,7 +102,7 @@ impl Encoded {
             use_alpha: false,
             color_plane_definition: ColorPlaneDefinition::Argb,
         };
-        ffi::told(answer).map(|bytes| Encoded { bytes, header })
+        told(answer).map(|bytes| Encoded { bytes, header })
     }
 }
 

@@ -1,103 +1,10 @@
 //! The port's functions as its static library has them.
 
-extern "C" {
-    /// Unpacks a plane of `width` times `height` samples. Answers the bytes read, or minus the refusal's number.
-    pub fn rdp6_decompress_8bpp_plane(
-        src: *const u8,
-        src_len: usize,
-        dst: *mut u8,
-        dst_len: usize,
-        width: usize,
-        height: usize,
-    ) -> i64;
+// One set of declarations, which a test of the binding holds to include/rdp6.h.
+#[path = "../../../../bindings/rust/src/ffi.rs"]
+mod ffi;
 
-    /// Packs the first `width` times `height` samples. Answers the bytes written, or minus the refusal's number.
-    pub fn rdp6_compress_8bpp_plane(
-        src: *const u8,
-        src_len: usize,
-        dst: *mut u8,
-        dst_len: usize,
-        width: usize,
-        height: usize,
-    ) -> i64;
-
-    /// Unpacks a picture. `definition` 0 is ARGB, 1 AYCoCg. Answers the bytes of the image, or minus the refusal's number.
-    pub fn rdp6_decode(
-        rle: bool,
-        alpha: bool,
-        definition: u8,
-        color_loss_level: u8,
-        chroma_subsampling: bool,
-        body: *const u8,
-        body_len: usize,
-        work: *mut u8,
-        work_len: usize,
-        image: *mut u8,
-        image_len: usize,
-        width: usize,
-        height: usize,
-    ) -> i64;
-
-    /// The work area that a picture needs, 0 if it is raw or its sides are refused.
-    pub fn rdp6_work_size(rle: bool, definition: u8, chroma_subsampling: bool, width: usize, height: usize) -> usize;
-
-    /// The image that a picture needs, 0 if its sides are refused.
-    pub fn rdp6_image_size(width: usize, height: usize) -> usize;
-
-    /// Packs a picture of R, G and B. Answers the bytes written, or minus the refusal's number.
-    pub fn rdp6_encode_channels_stream(
-        r: *const u8,
-        r_len: usize,
-        g: *const u8,
-        g_len: usize,
-        b: *const u8,
-        b_len: usize,
-        dst: *mut u8,
-        dst_len: usize,
-        rle: bool,
-        width: usize,
-        height: usize,
-    ) -> i64;
-
-    /// The same with an alpha plane.
-    pub fn rdp6_encode_channels_stream_alpha(
-        r: *const u8,
-        r_len: usize,
-        g: *const u8,
-        g_len: usize,
-        b: *const u8,
-        b_len: usize,
-        a: *const u8,
-        a_len: usize,
-        dst: *mut u8,
-        dst_len: usize,
-        rle: bool,
-        width: usize,
-        height: usize,
-    ) -> i64;
-
-    /// Packs a picture of pixels of B, G, R and A, of which A is left out. Answers as the others do.
-    pub fn rdp6_encode_bitmap(
-        src: *const u8,
-        src_len: usize,
-        dst: *mut u8,
-        dst_len: usize,
-        rle: bool,
-        width: usize,
-        height: usize,
-    ) -> i64;
-
-    /// The same with an alpha plane.
-    pub fn rdp6_encode_bitmap_alpha(
-        src: *const u8,
-        src_len: usize,
-        dst: *mut u8,
-        dst_len: usize,
-        rle: bool,
-        width: usize,
-        height: usize,
-    ) -> i64;
-}
+pub use ffi::*;
 
 /// Unpacking on slices, for callers that do not care where they lie.
 pub fn unpack(src: &[u8], dst: &mut [u8], width: usize, height: usize) -> i64 {
