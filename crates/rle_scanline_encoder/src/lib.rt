@@ -20,5 +20,5 @@ pub fn encode_scanline(codes: &[u8], dst: &mut [u8]) -> Packed
     if codes.len() == 0 {
         return Packed::Written(0);
     }
-    encode_row(codes, dst, 0)
+    encode_row(codes, dst)
 }

@@ -23,16 +23,16 @@ fn encode_row_end(codes: &[u8], start: usize, last: usize, dst: &mut [u8], at: u
     encode_segment(&codes[start..last + 1], repeats, dst, at)
 }
 
-// Packs a row into dst from index `at` on. The raw values that wait are codes[start..last]; the value after them stands at `last`
+// Packs a row into dst from its first byte on. The raw values that wait are codes[start..last]; the value after them stands at `last`
 // and is repeated from there up to i. 3 or more repeats end a segment, fewer join the raw values.
-pub(crate) fn encode_row(codes: &[u8], dst: &mut [u8], at: usize) -> Packed
-    requires { ⌜ (0 < length (now codes)) × (at ≤ length (now dst)) ⌝ }
-    ensures answer { λ r. ⌜ toldPacked r ≡ answerAt (rowSegments (now (codes .entry))) (now (dst .entry)) at ⌝ }
-    ensures slice { λ _. ⌜ now (dst .exit) ≡ sliceAt (rowSegments (now (codes .entry))) (now (dst .entry)) at ⌝ }
+pub(crate) fn encode_row(codes: &[u8], dst: &mut [u8]) -> Packed
+    requires { ⌜ 0 < length (now codes) ⌝ }
+    ensures answer { λ r. ⌜ toldPacked r ≡ answerAt (rowSegments (now (codes .entry))) (now (dst .entry)) 0 ⌝ }
+    ensures slice { λ _. ⌜ now (dst .exit) ≡ sliceAt (rowSegments (now (codes .entry))) (now (dst .entry)) 0 ⌝ }
 {
     let mut start = 0;
     let mut last = 0;
-    let mut to = at;
+    let mut to = 0;
     let mut i = 1;
     while i < codes.len() {
         if codes[i] == codes[last] {

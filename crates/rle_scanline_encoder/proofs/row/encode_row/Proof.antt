@@ -11,16 +11,16 @@ use Rattle.rle_scanline_encoder.proofs.row.encode_row.Statement.{statem
 use Rattle.rle_scanline_encoder.proofs.row.encode_row.Tie as tie
 
 abbrev Inv-loop : tie.InvT-loop
-Inv-loop codes dst₀ at start₀ last₀ to₀ i₀ dst start last to i = Scanned codes start last i × WriteHead (rowSegments codes) (scan codes start last i) dst₀ dst at to
+Inv-loop codes dst₀ start₀ last₀ to₀ i₀ dst start last to i = Scanned codes start last i × WriteHead (rowSegments codes) (scan codes start last i) dst₀ dst 0 to
 
 abbrev μ-loop : tie.MeasureT-loop
-μ-loop codes dst₀ at start₀ last₀ to₀ i₀ dst start last to i = length codes - i
+μ-loop codes dst₀ start₀ last₀ to₀ i₀ dst start last to i = length codes - i
 
 loop-holds : tie.Need-loop-holds Inv-loop μ-loop
 loop-holds c =
     let a = c .before .before .args in (
       scanned-begins (a .codes .now) (omega arith),
-      head-rest (head-first (rowSegments (a .codes .now)) (a .dst .now) (a .at) (omega arith)) (scan (a .codes .now) 0 0 1) (scan-begins (a .codes .now) (omega arith)),
+      head-rest (head-first (rowSegments (a .codes .now)) (a .dst .now) 0 (omega arith)) (scan (a .codes .now) 0 0 1) (scan-begins (a .codes .now) (omega arith)),
     )
 
 shared-slice-read-if1 : tie.Need-shared-slice-read-if1 Inv-loop μ-loop
