@@ -1,4 +1,4 @@
-# Read by the scripts beside it, with `here` set to this folder. Stops where the Rust that was ported cannot be built. A path to its source is
+# Read by the scripts beside it, with `here` set to this folder. Stops where IronRDP cannot be built. A path to its source is
 # meant from where the script was called; cargo runs elsewhere.
 
 if [ -n "${RDP6_RUST_SOURCE:-}" ]; then

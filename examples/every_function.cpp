@@ -1,4 +1,4 @@
-// Calls every function of the library from C++, on pictures small enough to be packed by hand, and sees that each answers what it must.
+// Calls every function of the library from C++, on pictures small enough to be packed by hand, and checks what it returns and writes.
 #include <cstdio>
 #include <vector>
 
@@ -23,7 +23,7 @@ Bytes bytes(const uint8_t *first, size_t count)
     return Bytes(first, first + count);
 }
 
-// Whether so many bytes were written to the front of a slice filled with EE, and none behind them.
+// Whether just these bytes were written to the start of a buffer filled with EE.
 bool is_written(int64_t answer, const Bytes &slice, const Bytes &expected)
 {
     Bytes whole(expected);
@@ -63,7 +63,7 @@ void packing()
     expect("rdp6_encode_channels_stream_alpha", is_written(answer, body, bytes(raw_alpha, 5)));
 }
 
-// Document 01's example 15, with alpha and without: Y 100, Co 10, Cg 20.
+// Example 15 of docs/FORMAT.md, with alpha and without: Y 100, Co 10, Cg 20.
 void unpacking()
 {
     const uint8_t body[] = {255, 100, 10, 20}, with_alpha[] = {90, 120, 70}, without[] = {70, 120, 90};

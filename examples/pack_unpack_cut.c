@@ -1,11 +1,11 @@
 /*
- * Packs a picture and unpacks it again; then cuts what was packed in the middle, and shows what is left of it.
+ * Packs a picture and unpacks it; then truncates what was packed to half its length, and shows what can still be unpacked.
  *
  *   pack_unpack_cut [PICTURE.ppm [FOLDER]]
  *
- * The picture is examples/racking.ppm by default. The folder, by default target/examples, gets unpacked.ppm and cut.ppm. What a cut
- * must leave is worked out from the picture and from the rules of a packing, never from what the unpacker says, and every byte is held
- * to it. Where something differs the program says so and has status 1.
+ * The picture is examples/racking.ppm by default. The folder, by default target/examples, gets unpacked.ppm and cut.ppm. The expected result of
+ * unpacking a truncated plane is computed from the picture and the packing rules (FORMAT 9), not from what the unpacker returns, and every byte is
+ * compared with it. If something differs the program says so and exits with status 1.
  */
 #include <inttypes.h>
 
@@ -16,7 +16,7 @@ static size_t width, height, area;
 static struct picture picture; /* as read */
 static struct picture image;   /* as unpacked */
 static uint8_t *pixels;        /* B, G, R, A */
-static uint8_t *body;          /* what is packed: at most two bytes a sample */
+static uint8_t *body;          /* packed: at most two bytes a sample */
 static uint8_t *work;          /* three planes */
 
 static void make_slices(void)
@@ -39,7 +39,7 @@ static void write_image(const char *what, const char *folder, const char *name)
     printf("%s: %s\n", what, path);
 }
 
-/* Packs the picture from its pixels, R, G and B as RLE planes, and answers how many bytes that makes. */
+/* Packs the picture from its pixels, R, G and B as RLE planes, and returns the number of bytes. */
 static size_t pack_picture(void)
 {
     for (size_t i = 0; i < area; i++) {
@@ -66,7 +66,7 @@ static void unpack_whole(size_t length)
         fail("DIFFERENT: the picture did not come back as it was; the answer is %" PRId64 ".", answer);
 }
 
-/* A picture is shown whole or not at all. Two fillings of the image tell every byte that is written from one that is not. */
+/* A truncated picture is refused, and the image is unchanged. With two different fillings of the image every written byte shows. */
 static void unpack_half(size_t length)
 {
     size_t half = length / 2, least = 3 * height * ((width + 46) / 47);
@@ -84,7 +84,7 @@ static void unpack_half(size_t length)
     printf("refusal %" PRId64 ", bytes are missing; the image is untouched\n", refusal);
 }
 
-/* Packs the first rows of a plane, and answers how many bytes that makes. They are the first bytes of the whole plane's packing. */
+/* Packs the first rows of a plane, and returns the number of bytes. They are the first bytes of the packing of the plane. */
 static size_t pack_rows(const uint8_t *samples, size_t rows)
 {
     if (rows == 0)
@@ -95,7 +95,7 @@ static size_t pack_rows(const uint8_t *samples, size_t rows)
     return (size_t)answer;
 }
 
-/* How many rows have all their bytes within the first ones of the plane's packing. */
+/* The number of rows that are complete within the first bytes of the plane's packing. */
 static size_t rows_within(const uint8_t *samples, size_t length)
 {
     size_t least = 0, most = height;
@@ -109,13 +109,13 @@ static size_t rows_within(const uint8_t *samples, size_t length)
     return least;
 }
 
-/* How many values those segments stand for that lie whole within these bytes. */
+/* The number of values of the segments that are complete within these bytes. */
 static size_t values_within(const uint8_t *bytes, size_t length)
 {
     size_t values = 0, at = 0;
     while (at < length) {
         size_t raw = bytes[at] >> 4, run = bytes[at] & 15;
-        bool long_run = run == 1 || run == 2; /* then there are no raw bytes, and their number lengthens the run */
+        bool long_run = run == 1 || run == 2; /* then there are no raw bytes, and the high bits belong to the run */
         at += long_run ? 1 : 1 + raw;
         if (at <= length)
             values += raw + (long_run ? 16 * run : run);
@@ -123,7 +123,7 @@ static size_t values_within(const uint8_t *bytes, size_t length)
     return values;
 }
 
-/* What stands for a sample in a packing: itself in the first row, below it the difference from the sample above, as a code. */
+/* The coded value of a sample: itself in the first row, else the delta code of the difference from the sample above. */
 static uint8_t coded_value(const uint8_t *samples, size_t i)
 {
     if (i < width)
@@ -132,7 +132,7 @@ static uint8_t coded_value(const uint8_t *samples, size_t i)
     return (uint8_t)(difference < 128 ? 2 * difference : 2 * (255 - difference) + 1);
 }
 
-/* Unpacks the first bytes of a plane's packing into a plane filled with one value: so many rows and values must come, and no more. */
+/* Unpacks the first bytes of a plane's packing into a plane filled with one value; just these rows and values must be written. */
 static void unpack_cut(const uint8_t *samples, size_t length, uint8_t *plane, uint8_t fill, size_t rows, size_t values)
 {
     memset(plane, fill, area);
@@ -146,7 +146,7 @@ static void unpack_cut(const uint8_t *samples, size_t length, uint8_t *plane, ui
     }
 }
 
-/* Packs a channel as a plane, cuts the packing in the middle, and puts what is left into the image, on magenta. */
+/* Packs a channel as a plane, truncates the packing to half its length, and puts what can be unpacked into the image, on magenta. */
 static void cut_plane(size_t channel)
 {
     static const uint8_t magenta[3] = {255, 0, 255};
@@ -180,6 +180,6 @@ int main(int argc, char **argv)
     printf("Proved, of every input (README.md, \"What is proved\"):\n"
            "  a picture is shown whole or not at all: no refusal touches the image;\n"
            "  of a cut plane every row whose bytes are all there comes back as it was, and nothing behind the next row is touched;\n"
-           "  each call returns, and reads and writes nothing outside the slices that it is lent.\n");
+           "  each call returns, and reads and writes nothing outside the buffers that it is given.\n");
     return 0;
 }

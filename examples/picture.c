@@ -1,6 +1,6 @@
 /*
- * Unpacks a small picture: 3 x 2 pixels in AYCoCg with alpha, loss level 1, subsampled, RLE. Then the same cut short in the second row of Y, and with
- * a loss level that there is not; the image stays as it was then.
+ * Unpacks a small picture: 3 x 2 pixels in AYCoCg with alpha, loss level 1, subsampled, RLE. Then the same truncated in the second row of Y, and with
+ * an invalid loss level; both are refused, and the image is unchanged.
  */
 #include <inttypes.h>
 #include <stdio.h>
@@ -28,7 +28,7 @@ static void print_image(const uint8_t *image)
         }
 }
 
-/* The slices are made once for the largest picture, and lent to each call. */
+/* The buffers are made once, for the largest picture, and used by each call. */
 static void unpack(uint8_t *work, size_t work_len, uint8_t *image, size_t image_len, size_t body_len, uint8_t level)
 {
     int64_t answer = rdp6_decode(true, true, RDP6_AYCOCG, level, true, body, body_len, work, work_len, image, image_len, WIDTH, HEIGHT);

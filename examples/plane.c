@@ -1,6 +1,6 @@
 /*
- * Packs the plane of document 01's example 14, a row of 9 above a row of 10, and prints its packing. Then unpacks that, once whole and
- * once cut after 6 bytes, and prints what is left; and packs again into a destination of 5 bytes.
+ * Packs the plane of example 14 of docs/FORMAT.md, a row of 9 above a row of 10, and prints its packing. Then unpacks that, complete and truncated
+ * to 6 bytes, and prints the destination; and packs again into a destination of 5 bytes.
  */
 #include <inttypes.h>
 #include <stdio.h>
@@ -47,7 +47,7 @@ int main(void)
     uint8_t samples[AREA];
     memset(samples, 9, WIDTH);
     memset(samples + WIDTH, 10, WIDTH);
-    uint8_t packed[2 * AREA]; /* never too small: a packing has at most two bytes a sample */
+    uint8_t packed[2 * AREA]; /* always enough: a packing has at most two bytes a sample */
     int64_t length = pack(samples, packed, sizeof packed);
     if (length < 0)
         return 1;

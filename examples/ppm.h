@@ -1,6 +1,6 @@
 /*
- * Pictures in files, for the examples: PPM of the binary form, P6, with samples of 0 to 255. What cannot be read or written ends the
- * program with status 1 and a line that says why.
+ * Reads and writes picture files for the examples: binary PPM, P6, with samples of 0 to 255. If a file cannot be read or written the program ends
+ * with status 1 and a line that says why.
  */
 #ifndef EXAMPLES_PPM_H
 #define EXAMPLES_PPM_H
@@ -19,7 +19,7 @@
 
 struct picture {
     size_t width, height;
-    uint8_t *rgb; /* R, G and B of each pixel, row by row from the top */
+    uint8_t *rgb; /* R, G and B of each pixel, row by row from the top, as PPM has it */
 };
 
 static inline void fail(const char *format, ...)
@@ -41,7 +41,7 @@ static inline uint8_t *allocate(size_t size)
     return bytes;
 }
 
-/* The next number of a header, behind blanks and comments; 0 if there is none. What is too large stays too large. */
+/* The next number of a header, behind blanks and comments; 0 if there is none. It stops growing once it is too large. */
 static inline size_t header_number(FILE *file)
 {
     size_t number = 0;

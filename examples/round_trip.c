@@ -1,7 +1,6 @@
 /*
- * Draws a picture in BGRA, racking with pallets before a sky. Packs it twice, as RLE without alpha and raw with it, unpacks both, and sees
- * that R, G and B are those that went in. Then writes what was unpacked as a PPM file, which any viewer opens, to the path given or to
- * target/examples/round_trip.ppm.
+ * Draws a picture in BGRA, packs it twice, as RLE without alpha and raw with alpha, unpacks both, and checks that R, G and B are the same. Then
+ * writes what was unpacked as a PPM file to the path given or to target/examples/round_trip.ppm.
  */
 #include <inttypes.h>
 #include <stdio.h>
@@ -18,7 +17,7 @@ struct color {
 };
 
 static uint8_t pixels[4 * AREA]; /* B, G, R, A */
-static uint8_t body[6 * AREA];   /* never too small: three planes of at most two bytes a sample, or four raw ones and a byte */
+static uint8_t body[6 * AREA];   /* always enough: three planes of at most two bytes a sample, or four raw ones and a byte */
 static uint8_t work[3 * AREA];
 static uint8_t image[3 * AREA]; /* R, G, B */
 
@@ -59,7 +58,7 @@ static void draw(void)
     }
 }
 
-/* A count. A refusal ends the program. */
+/* The number of bytes. A refusal ends the program. */
 static size_t counted(int64_t answer)
 {
     if (answer < 0) {
@@ -69,7 +68,7 @@ static size_t counted(int64_t answer)
     return (size_t)answer;
 }
 
-/* Unpacks the first bytes of body. alpha says whether A was packed: the header record that goes with such a body does not. */
+/* Unpacks the first bytes of body. alpha is whether A was packed. */
 static void unpack(bool rle, bool alpha, size_t length)
 {
     memset(image, 0, sizeof image);

@@ -1,18 +1,29 @@
 /*
- * RDP 6.0 plane pictures: the C interface of librdp6.a.
+ * RDP 6.0 planar bitmaps: the C interface of librdp6.a. docs/FORMAT.md specifies the format and the behaviour; "FORMAT 2.4" is a
+ * section of it.
  *
- * Every function is proved, on every input, to return, to stay inside the slices that it is lent, and to do what its contract in
+ * Every function is proved, for every input, to return, to stay inside the buffers that it is given, and to do what its contract in
  * crates/rdp6/src/lib.rt says. What the compiler, the linker and the caller must get right is listed in README.md.
  *
- * Slices. A slice is a pointer and its length in bytes. It is the caller's: it is lent for the call, and nothing is kept, freed or
- * allocated. A slice that is written must not overlap any other slice of the call. All of a slice's bytes must be readable, and
- * writable where the pointer is not const; its length is at most PTRDIFF_MAX. Where the length is 0 the pointer is not followed, and may
- * be NULL. Slices that are only read may overlap each other.
+ * Buffers. A buffer is a pointer and its length in bytes. It belongs to the caller and is used only during the call; nothing is kept,
+ * freed or allocated. No alignment is needed. A buffer that is written must not overlap any other buffer of the call; buffers that
+ * are only read may overlap each other. All bytes of a buffer must be readable, and writable where the pointer is not const; its
+ * length is at most PTRDIFF_MAX. If the length is 0, the pointer may be NULL. Bytes behind what a function writes are unchanged.
  *
- * Answers. An int64_t is a count of bytes, or minus the number of a refusal: below 0 it is a refusal, and then nothing but what that
- * refusal names is changed.
+ * Results. An int64_t is a number of bytes or, if it is negative, the negated number of a refusal, that is of an error. A refusal
+ * changes nothing but what is said of it.
  *
- * Threads. There is no state: any number of threads may call at once, each on its own slices.
+ * Arguments. A bool must be 0 or 1, as C has it. Every other value of every argument is allowed.
+ *
+ * Row order. The first row in a body is the first row of the image. RDP bitmap updates carry their rows bottom up: flip the rows to
+ * show one, or to compare with a codec that flips, as FreeRDP's does (FORMAT 1.5).
+ *
+ * Header byte. A stream is a header byte and a body (FORMAT 1.2). These functions read and write bodies; the caller reads and writes
+ * the byte: bits 0 to 2 are the loss level, 0 for ARGB; bit 3 (0x08) is subsampling, bit 4 (0x10) RLE, bit 5 (0x20) "no alpha".
+ *
+ * Threads and stack. There is no state: any number of threads may call at once, each with its own buffers. Packing takes at most
+ * 17,440 bytes of stack, unpacking fewer than 500. If the program binds memcpy and memset lazily, the first call takes some 3,000 bytes
+ * more for the dynamic linker.
  */
 #ifndef RDP6_H
 #define RDP6_H
@@ -28,142 +39,139 @@ extern "C" {
 /* The largest width and the largest height. */
 #define RDP6_MAX_SIDE 8192
 
-/* The refusals. A function answers minus one of these; its comment says which it gives, and in which order it tests for them. */
+/* The refusals (FORMAT 8). A function returns one of these negated; its comment says which, and in which order they are checked. */
 enum rdp6_refusal {
     RDP6_ZERO_SIZE = 1,                        /* the width or the height is 0 */
     RDP6_TOO_LARGE = 2,                        /* the width or the height is over 8192 */
-    RDP6_LOSS_LEVEL = 3,                       /* AYCoCg with a loss level of 0 or over 7, or a definition that there is not */
-    RDP6_INVALID_UNCOMPRESSED_DATA_SIZE = 4,   /* the body is shorter than its least size */
+    RDP6_LOSS_LEVEL = 3,                       /* AYCoCg with a loss level of 0 or over 7, or an unknown definition */
+    RDP6_INVALID_UNCOMPRESSED_DATA_SIZE = 4,   /* the body is shorter than its minimum size */
     RDP6_SHORT_WORK = 5,                       /* the work area is shorter than the three colour planes */
     RDP6_SHORT_IMAGE = 6,                      /* the image is shorter than 3 * width * height */
     RDP6_READ_COMPRESSED_DATA = 7,             /* a control byte or a raw byte is missing */
     RDP6_INVALID_SEGMENT_HEADER = 8,           /* a control byte is 0 */
-    RDP6_SEGMENT_DO_NOT_FIT_SCANLINE = 9,      /* a segment passes the width */
+    RDP6_SEGMENT_DO_NOT_FIT_SCANLINE = 9,      /* a segment overruns its row */
     RDP6_SHORT_PLANE = 10,                     /* the destination is shorter than width * height */
-    RDP6_NOT_ENOUGH_BYTES = 11,                /* a source has fewer than width * height samples, or whole pixels */
-    RDP6_BUFFER_TOO_SMALL = 12                 /* what is to be written next does not fit */
+    RDP6_NOT_ENOUGH_BYTES = 11,                /* a source has fewer than width * height samples, or complete pixels */
+    RDP6_BUFFER_TOO_SMALL = 12                 /* the next segment, or the raw body, does not fit */
 };
 
 /*
- * Unpacks an RLE plane of width * height samples (MS-RDPEGDI 3.1.9.2) from src into the first width * height bytes of dst, row by
- * row from the top, and answers how many bytes of src were read. What follows them in src is not read, and the bytes of dst behind
- * the plane are untouched.
+ * Unpacks an RLE plane of width * height samples (FORMAT 4; MS-RDPEGDI 3.1.9.2) from src into the first width * height bytes of dst,
+ * and returns the number of bytes of src that were read. What follows them in src is not read.
  *
- * Refusals, tested in this order:
+ * Refusals, checked in this order:
  *    1  width or height is 0          }
  *    2  width or height is over 8192  }  dst is unchanged
  *   10  dst_len < width * height      }
- *    7  a control byte or a raw byte is missing   }  the rows before are complete; the refused row holds the coded values of its
- *    8  a control byte is 0                       }  earlier segments, the row above not yet added; the rest of dst is untouched
- *    9  a segment passes the width                }
- * Within one segment: a missing control byte (7), control byte 0 (8), missing raw bytes (7), then 9.
+ *    7  a control byte or a raw byte is missing   }  the rows before are complete; the refused row has the coded values of its
+ *    8  a control byte is 0                       }  earlier segments, the row above not yet added; the rest of dst is unchanged
+ *    9  a segment overruns its row                }
+ * Within one segment: missing control byte (7), control byte 0 (8), missing raw bytes (7), then 9.
  */
 int64_t rdp6_decompress_8bpp_plane(const uint8_t *src, size_t src_len, uint8_t *dst, size_t dst_len, size_t width, size_t height);
 
 /*
- * Packs a plane of width * height samples, the first bytes of src row by row from the top, as an RLE plane into the first bytes of dst,
- * and answers how many bytes were written. What follows the samples in src is not read, and the bytes of dst behind the packing are
- * untouched. The packing has at most two bytes a sample, so that a dst of 2 * width * height bytes never gets refusal 12.
+ * Packs a plane (FORMAT 5), the first width * height bytes of src, row by row, into the first bytes of dst, and returns the number of
+ * bytes written. What follows the samples in src is not read. At most two bytes a sample are written: with a dst of 2 * width *
+ * height bytes there is no refusal 12.
  *
- * Refusals, tested in this order:
+ * Refusals, checked in this order:
  *    1  width or height is 0          }
  *    2  width or height is over 8192  }  dst is unchanged
  *   11  src_len < width * height      }
- *   12  the next segment does not fit into dst: the segments before it are written whole, the rest of dst is untouched
+ *   12  the next segment does not fit into dst: the segments before it are written, the rest of dst is unchanged
  */
 int64_t rdp6_compress_8bpp_plane(const uint8_t *src, size_t src_len, uint8_t *dst, size_t dst_len, size_t width, size_t height);
 
-/* What the planes of a picture hold. */
+/* What the colour planes of a picture are. */
 enum rdp6_definition {
     RDP6_ARGB = 0,   /* R, G and B */
-    RDP6_AYCOCG = 1  /* Y, Co and Cg, with a loss level and perhaps subsampled */
+    RDP6_AYCOCG = 1  /* Y, Co and Cg, with a loss level and optional subsampling */
 };
 
 /*
- * Unpacks a picture (MS-RDPEGDI 2.2.2.5.1, 3.1.9.1) from its body, which is what follows the header byte, into the first
- * 3 * width * height bytes of image: R, G and B of each pixel, row by row from the top. Answers that number. The bytes of image and of
- * work behind what is written are untouched. The header byte is the caller's to read; what it says goes into the first five parameters:
+ * Unpacks a picture (FORMAT 2, 6; MS-RDPEGDI 2.2.2.5.1, 3.1.9.1) from its body, which is what follows the header byte, into the first
+ * 3 * width * height bytes of image: R, G and B of each pixel, row by row. Returns that number. The first five arguments are what the
+ * header byte says:
  *
- *   rle                 the planes are RLE planes, one after the other; else they are raw samples
- *   alpha               an alpha plane stands before the colour planes. It is not shown
- *   definition          RDP6_ARGB or RDP6_AYCOCG; any other value is refused as a loss level is, 3
- *   color_loss_level    1 to 7; not looked at for ARGB
- *   chroma_subsampling  the chroma planes have half the sides; not looked at for ARGB
+ *   rle                 the planes are RLE planes; else they are raw samples
+ *   alpha               there is an alpha plane before the colour planes. It is not part of the image
+ *   definition          RDP6_ARGB or RDP6_AYCOCG; any other value is refusal 3
+ *   color_loss_level    1 to 7; ignored for ARGB
+ *   chroma_subsampling  the chroma planes have half the sides; ignored for ARGB
  *
- * With chroma = ((width + 1) / 2) * ((height + 1) / 2) for a subsampled AYCoCg picture, else width * height, the least lengths are
+ * With chroma = ((width + 1) / 2) * ((height + 1) / 2) for a subsampled AYCoCg picture, else width * height, the minimum lengths are
  *
  *   body_len    raw: (1 + alpha) * width * height + 2 * chroma
- *               RLE: (1 + alpha) * least(width, height) + 2 * least(the chroma sides), where least(w, h) = h * ((w + 46) / 47);
+ *               RLE: (1 + alpha) * rle_min(width, height) + 2 * rle_min(the chroma sides), where rle_min(w, h) = h * ((w + 46) / 47);
  *               a longer body is accepted, and what follows the last plane is not read
  *   work_len    RLE: width * height + 2 * chroma, which rdp6_work_size computes; raw: 0
  *   image_len   3 * width * height, which rdp6_image_size computes
  *
- * An RLE picture is unpacked by way of work, which then holds its three colour planes one after the other; the first overwrites alpha.
- * A raw picture does not touch work, which may be NULL and 0 then.
+ * An RLE picture is unpacked into work, which then has its three colour planes one after the other; the first overwrites alpha. A raw
+ * picture does not use work, which may be NULL with length 0.
  *
- * Refusals, tested in this order. The image is unchanged by every one of them:
+ * Refusals, checked in this order. None of them changes image:
  *    1  width or height is 0                                          }
  *    2  width or height is over 8192                                  }
- *    3  AYCoCg with loss level 0 or over 7, or another definition     }  work is unchanged too
- *    4  body_len is under its least length                            }
- *    5  work_len is under its least length (RLE only)                 }
- *    6  image_len is under its least length                           }
- *    7  a control byte or a raw byte is missing   }  RLE only. In work the planes before are complete; the refused one is left as
- *    8  a control byte is 0                       }  rdp6_decompress_8bpp_plane leaves it, and what it did not write still holds
- *    9  a segment passes the width                }  alpha, if that is flagged and it is the first colour plane, or what was there
+ *    3  AYCoCg with loss level 0 or over 7, or an unknown definition  }  work is unchanged too
+ *    4  body_len is below its minimum                                 }
+ *    5  work_len is below its minimum (RLE only)                      }
+ *    6  image_len is below its minimum                                }
+ *    7  a control byte or a raw byte is missing   }  RLE only. In work the planes before are complete, and the refused plane is as
+ *    8  a control byte is 0                       }  rdp6_decompress_8bpp_plane leaves it. If it is the first colour plane, the part
+ *    9  a segment overruns its row                }  that it did not write still has alpha, if there is any
  */
 int64_t rdp6_decode(bool rle, bool alpha, uint8_t definition, uint8_t color_loss_level, bool chroma_subsampling, const uint8_t *body,
                     size_t body_len, uint8_t *work, size_t work_len, uint8_t *image, size_t image_len, size_t width, size_t height);
 
 /*
- * The least work_len of such a picture: the bytes of its three colour planes, or 0 if it is raw. Answers 0 for sides that are refused.
- * A definition that there is not is sized as AYCoCg.
+ * The minimum work_len of a picture: the size of its three colour planes, or 0 if it is raw. Returns 0 for sides that are refused. An
+ * unknown definition has the size of AYCoCg.
  */
 size_t rdp6_work_size(bool rle, uint8_t definition, bool chroma_subsampling, size_t width, size_t height);
 
-/* The least image_len of a picture, 3 * width * height. Answers 0 for sides that are refused. */
+/* The minimum image_len of a picture, 3 * width * height. Returns 0 for sides that are refused. */
 size_t rdp6_image_size(size_t width, size_t height);
 
 /*
- * Packs a picture (MS-RDPEGDI 2.2.2.5.1) from its R, G and B into the first bytes of dst, and answers how many were written. They are its
- * body, which follows a header byte of the caller's. The bytes of dst behind it are untouched.
+ * Packs a picture (FORMAT 7; MS-RDPEGDI 2.2.2.5.1) from its R, G and B into the first bytes of dst, and returns the number of bytes
+ * written. They are the body; the caller sends a header byte before it.
  *
- *   r, g, b   a channel each: one byte a pixel, row by row from the top. What follows the first width * height is not read
- *   rle       true: R, G and B go out one after the other, each as rdp6_compress_8bpp_plane packs it. A plane has at most two bytes a
- *             sample, so that a dst of 6 * width * height bytes never gets refusal 12
- *             false: their samples go out as they are, then one zero byte. dst_len is 3 * width * height + 1 at least
+ *   r, g, b   one channel each, one byte a pixel, row by row. What follows the first width * height bytes is not read
+ *   rle       true: three RLE planes, each as rdp6_compress_8bpp_plane packs it. With a dst of 6 * width * height bytes there is no refusal 12
+ *             false: the samples of the three planes, then one zero byte: 3 * width * height + 1 bytes
  *
- * The header record that goes with the body is: RLE as asked, ARGB, no alpha.
+ * The header byte for the body is 0x30 for RLE and 0x20 for raw: ARGB, no alpha.
  *
- * Refusals, tested in this order:
+ * Refusals, checked in this order:
  *    1  width or height is 0                               }
  *    2  width or height is over 8192                       }  dst is unchanged
- *   11  r_len, g_len or b_len is under width * height      }
- *   12  RLE: the next segment does not fit into dst: the segments before it are written whole, the rest of dst is untouched
+ *   11  r_len, g_len or b_len is below width * height     }
+ *   12  RLE: the next segment does not fit into dst: the segments before it are written, the rest of dst is unchanged
  *       raw: the body does not fit into dst, which is unchanged
  */
 int64_t rdp6_encode_channels_stream(const uint8_t *r, size_t r_len, const uint8_t *g, size_t g_len, const uint8_t *b, size_t b_len,
                                     uint8_t *dst, size_t dst_len, bool rle, size_t width, size_t height);
 
 /*
- * The same with alpha, a channel like the others. It goes out first: A, R, G, B. An RLE body then has at most 8 * width * height bytes,
- * a raw one 4 * width * height + 1, and refusal 11 is given for a_len too.
+ * The same with an alpha plane, which is the first: A, R, G, B. An RLE body has at most 8 * width * height bytes, a raw body 4 *
+ * width * height + 1. Refusal 11 is checked for a_len too.
  *
- * The header record is the same as without alpha: IronRDP's encoder sends no alpha flag with these four planes, although MS-RDPEGDI asks
- * for it. To unpack such a body with rdp6_decode, pass alpha as true.
+ * The sender should set the alpha flag, as MS-RDPEGDI has it: header byte 0x10 for RLE and 0x00 for raw. IronRDP's encoder sends 0x30
+ * and 0x20 also here. To unpack such a body with rdp6_decode, pass alpha as true.
  */
 int64_t rdp6_encode_channels_stream_alpha(const uint8_t *r, size_t r_len, const uint8_t *g, size_t g_len, const uint8_t *b, size_t b_len,
                                           const uint8_t *a, size_t a_len, uint8_t *dst, size_t dst_len, bool rle, size_t width,
                                           size_t height);
 
 /*
- * The same as rdp6_encode_channels_stream, from pixels: src has four bytes a pixel, B, G, R and A, row by row from the top. A is not
- * packed. What follows the first width * height pixels is not read. Refusal 11 is given if src has fewer whole pixels, that is if
- * src_len / 4 is under width * height.
+ * The same as rdp6_encode_channels_stream, from pixels: src has four bytes a pixel, B, G, R, A, row by row. A is not packed. What
+ * follows the first width * height pixels is not read. Refusal 11 if src_len / 4 is below width * height.
  */
 int64_t rdp6_encode_bitmap(const uint8_t *src, size_t src_len, uint8_t *dst, size_t dst_len, bool rle, size_t width, size_t height);
 
-/* The same as rdp6_encode_channels_stream_alpha, from such pixels: A is packed too. */
+/* The same as rdp6_encode_channels_stream_alpha, from such pixels. */
 int64_t rdp6_encode_bitmap_alpha(const uint8_t *src, size_t src_len, uint8_t *dst, size_t dst_len, bool rle, size_t width, size_t height);
 
 #ifdef __cplusplus

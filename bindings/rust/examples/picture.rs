@@ -1,4 +1,4 @@
-//! Unpacks a small picture whole, cut short, and with a loss level that there is not, over slices that are made once.
+//! Unpacks a small picture complete, truncated, and with an invalid loss level, into slices that are made once.
 //!
 //!     cargo run --offline --example picture
 
@@ -31,7 +31,7 @@ fn unpack(level: u8, body: &[u8], work: &mut [u8], image: &mut [u8]) {
 
 fn main() {
     let (work_len, image_len) = (work_size(header(1), WIDTH, HEIGHT), image_size(WIDTH, HEIGHT));
-    // Made once for the largest picture, and lent to each call.
+    // Made once, for the largest picture, and used by each call.
     let (mut work, mut image) = (vec![0; work_len], vec![0; image_len]);
     println!("work area {work_len} bytes, image {image_len} bytes");
     unpack(1, &BODY, &mut work, &mut image);

@@ -1,4 +1,4 @@
-//! Packs the plane of document 01's example 14, unpacks it whole and cut after 6 bytes, and packs it into a destination of 5 bytes.
+//! Packs the plane of example 14 of docs/FORMAT.md, unpacks it complete and truncated to 6 bytes, and packs it into a destination of 5 bytes.
 //!
 //!     cargo run --offline --example plane
 
@@ -37,7 +37,7 @@ fn unpack(body: &[u8]) {
 
 fn main() {
     let samples = [[9; WIDTH], [10; WIDTH]].concat();
-    // Never too small: a packing has at most two bytes a sample.
+    // Always enough: a packing has at most two bytes a sample.
     let packed = pack(&samples, 2 * AREA);
     unpack(&packed);
     unpack(&packed[..6]);

@@ -1,4 +1,4 @@
-//! Draws a picture in BGRA, packs it as RLE without alpha and raw with it, unpacks both, sees that R, G and B are those that went in, and
+//! Draws a picture in BGRA, packs it as RLE without alpha and raw with alpha, unpacks both, checks that R, G and B are the same, and
 //! writes a PPM file to the path given or to target/examples/round_trip.ppm.
 //!
 //!     cargo run --offline --example round_trip
@@ -39,7 +39,7 @@ fn draw() -> Vec<u8> {
 
 /// Packs the pixels, with their alpha or without: the body, and the header to unpack it with.
 fn encode(alpha: bool, rle: bool, pixels: &[u8]) -> Result<(BitmapStreamHeader, Vec<u8>), Refusal> {
-    // Never too small: four planes of at most two bytes a sample, or raw ones and a byte.
+    // Always enough: four planes of at most two bytes a sample, or raw ones and a byte.
     let mut body = vec![0; 8 * AREA];
     let mut encoder = BitmapStreamEncoder::new(WIDTH, HEIGHT);
     let packed = if alpha {
@@ -48,7 +48,7 @@ fn encode(alpha: bool, rle: bool, pixels: &[u8]) -> Result<(BitmapStreamHeader, 
         encoder.encode_bitmap::<BgrAChannels>(pixels, &mut body, rle)?
     };
     body.truncate(packed.bytes);
-    // The record that goes out with four planes does not say that there is alpha.
+    // For four planes the sender sets the alpha flag.
     Ok((BitmapStreamHeader { use_alpha: alpha, ..packed.header }, body))
 }
 

@@ -1,7 +1,7 @@
-//! The library's functions as include/rdp6.h has them. tests/header.rs holds this block to that file: keep the names of functions and
-//! parameters, and their order. The comparison with the Rust (differential/rust/ours) reads this file too.
+//! The functions of include/rdp6.h. tests/header.rs compares this block with that file: keep the names and the order of functions and
+//! parameters. The comparison with IronRDP (differential/rust/ours) uses this file too.
 
-/// A packer of pixels.
+/// The type of the functions that pack pixels.
 pub type EncodeBitmap = unsafe extern "C" fn(
     src: *const u8,
     src_len: usize,

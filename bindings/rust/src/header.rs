@@ -1,27 +1,30 @@
 //! The header record of a picture.
 
-/// What the planes of a picture hold.
+/// What the colour planes of a picture are.
 #[derive(Clone, Copy, Debug, PartialEq, Eq, Hash)]
 pub enum ColorPlaneDefinition {
     /// R, G and B.
     Argb,
     /// Y, Co and Cg.
     AYCoCg {
-        /// 1 to 7; a picture with another level is refused, 3.
+        /// 1 to 7; other levels are refusal 3.
         color_loss_level: u8,
         /// Whether the chroma planes have half the sides, rounded up.
         use_chroma_subsampling: bool,
     },
 }
 
-/// How a picture's body is coded: what its header byte says. The byte itself is read and written by the caller.
+/// What the header byte of a picture says. The caller reads and writes the byte.
+///
+/// Its bits 0 to 2 are the loss level, 0 for ARGB; bit 3 (`0x08`) is subsampling, bit 4 (`0x10`) RLE, bit 5 (`0x20`) *no* alpha
+/// (MS-RDPEGDI 2.2.2.5.1).
 #[derive(Clone, Copy, Debug, PartialEq, Eq, Hash)]
 pub struct BitmapStreamHeader {
     /// Whether the planes are RLE planes; else they are raw samples.
     pub enable_rle_compression: bool,
-    /// Whether an alpha plane stands before the colour planes.
+    /// Whether there is an alpha plane before the colour planes.
     pub use_alpha: bool,
-    /// What the colour planes hold.
+    /// What the colour planes are.
     pub color_plane_definition: ColorPlaneDefinition,
 }
 
@@ -39,7 +42,7 @@ pub(crate) struct Definition {
 impl From<ColorPlaneDefinition> for Definition {
     fn from(definition: ColorPlaneDefinition) -> Definition {
         match definition {
-            // The level and the subsampling of ARGB are not looked at.
+            // Loss level and subsampling are ignored for ARGB.
             ColorPlaneDefinition::Argb => {
                 Definition { number: RDP6_ARGB, color_loss_level: 0, chroma_subsampling: false }
             }

@@ -1,7 +1,7 @@
-//! RDP 6.0 plane pictures (MS-RDPEGDI 2.2.2.5.1, 3.1.9): safe functions over the static library `librdp6.a`, with the names of IronRDP's
-//! `rdp6`, of which the library is a port.
+//! RDP 6.0 planar bitmaps (MS-RDPEGDI 2.2.2.5.1, 3.1.9): safe functions over the static library `librdp6.a`, with the names of IronRDP's
+//! `rdp6`, of which the library is a port. docs/FORMAT.md of the repository specifies the format and the behaviour.
 //!
-//! A picture is packed, and its body unpacked again:
+//! Packing a picture, and unpacking its body:
 //!
 //! ```
 //! use rdp6::{BgrAChannels, BitmapStreamDecoder, BitmapStreamEncoder};
@@ -16,7 +16,7 @@
 //! body.truncate(packed.bytes);
 //! assert_eq!(body.len(), 30);
 //!
-//! // The other end has `packed.header` from the header byte, which is the service's own.
+//! // The receiver knows `packed.header` from the header byte, which the service reads and writes itself.
 //! let mut image = Vec::new();
 //! BitmapStreamDecoder::default().decode_body_to_rgb24(packed.header, &body, &mut image, width, height)?;
 //! assert_eq!(image, [[230, 110, 30]; 128].concat()); // R, G, B
@@ -24,7 +24,7 @@
 //! # }
 //! ```
 //!
-//! What cannot be done is refused by a number, and each function says what it leaves behind:
+//! Errors are [`Refusal`]s. Each function says what a refusal leaves in its slices:
 //!
 //! ```
 //! # use rdp6::Refusal;
@@ -37,33 +37,38 @@
 //!
 //! | | allocates | |
 //! |---|---|---|
-//! | [`decode`], [`work_size`], [`image_size`] | no | a picture's body to R, G, B |
-//! | [`BitmapStreamDecoder`] | yes | the same with a work area that it keeps, appended to a `Vec` |
-//! | [`BitmapStreamEncoder`] | no | channels or pixels to a picture's body |
-//! | [`decompress_8bpp_plane`], [`compress_8bpp_plane`] | no | an RLE plane, both ways |
+//! | [`decode`], [`work_size`], [`image_size`] | no | unpacks a picture's body to R, G, B |
+//! | [`BitmapStreamDecoder`] | yes | the same, with a work area of its own, appended to a `Vec` |
+//! | [`BitmapStreamEncoder`] | no | packs channels or pixels to a picture's body |
+//! | [`decompress_8bpp_plane`], [`compress_8bpp_plane`] | no | unpacks and packs an RLE plane |
 //!
-//! The modules [`rle`], [`bitmap_stream::decoder`] and [`bitmap_stream::encoder`] are those of the original, so that a service changes
-//! the root of its `use` lines. What else it must change is in docs/DIFFERENCES.md of the repository, "The Rust binding": above all,
+//! The modules [`rle`], [`bitmap_stream::decoder`] and [`bitmap_stream::encoder`] are those of IronRDP, so that a service that used it changes
+//! the root of its `use` lines. What else changes is in docs/DIFFERENCES.md of the repository, "The Rust binding": above all,
 //! **no header byte is read or written here**.
+//!
+//! # Row order
+//!
+//! The first row in a body is the first row of the image. RDP bitmap updates carry their rows bottom up: flip the rows to show one, or to compare
+//! with a codec that flips, as FreeRDP's does.
 //!
 //! # What is proved, and what must be believed
 //!
-//! Every function of the library is proved, on every input, to return, to stay inside its slices, and to give the answer and the bytes
-//! that its definition gives; the repository's README has it at length. This crate is not proved. It is small: it lends slices with
-//! their lengths, opens the answers, names the record to send, and makes vectors longer. Its declarations of the C functions are held
-//! to include/rdp6.h by a test.
+//! Every function of the library is proved, for every input, to return, to stay inside its slices, and to give the answer and the bytes
+//! of its definition; see the repository's README. This crate is not proved. It is small: it passes slices with their lengths, converts the
+//! results, names the header record to send, and makes vectors longer. A test compares its declarations of the C functions with
+//! include/rdp6.h.
 //!
 //! There is no state: any number of threads may call at once.
 
 #![deny(missing_docs, unsafe_op_in_unsafe_fn)]
 #![warn(clippy::undocumented_unsafe_blocks)]
 
+mod answer;
 pub mod bitmap_stream;
 mod ffi;
 mod header;
 mod refusal;
 pub mod rle;
-mod told;
 
 pub use bitmap_stream::decoder::{decode, image_size, work_size, BitmapDecodeError, BitmapStreamDecoder};
 pub use bitmap_stream::encoder::{

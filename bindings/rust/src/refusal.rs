@@ -5,8 +5,8 @@ use std::fmt;
 
 /// Why a call is refused: one of twelve numbers, which are the values of the variants.
 ///
-/// Each function says which it gives, in the order in which it tests for them, and what it leaves in the slices then. The names are
-/// those of the original's errors where it has one. Later versions may add numbers.
+/// Each function lists its refusals in the order in which they are checked, with what each leaves in the slices. The names are
+/// those of IronRDP's errors where it has one. Later versions may add numbers.
 ///
 /// ```
 /// use rdp6::Refusal;
@@ -15,7 +15,7 @@ use std::fmt;
 /// let refusal = rdp6::decompress_8bpp_plane(&[0x04], &mut plane, 3, 1).unwrap_err();
 /// assert_eq!(refusal, Refusal::SegmentDoNotFitScanline);
 /// assert_eq!(refusal.number(), 9);
-/// assert_eq!(refusal.to_string(), "refusal 9: a segment passes the end of its row");
+/// assert_eq!(refusal.to_string(), "refusal 9: a segment overruns its row");
 /// ```
 #[derive(Clone, Copy, Debug, PartialEq, Eq, PartialOrd, Ord, Hash)]
 #[non_exhaustive]
@@ -27,7 +27,7 @@ pub enum Refusal {
     TooLarge = 2,
     /// AYCoCg with a loss level of 0 or over 7.
     LossLevel = 3,
-    /// The body of a picture is shorter than its least size.
+    /// The body of a picture is shorter than its minimum size.
     InvalidUncompressedDataSize = 4,
     /// The work area is shorter than the three colour planes.
     ShortWork = 5,
@@ -37,13 +37,13 @@ pub enum Refusal {
     ReadCompressedData = 7,
     /// A control byte is 0.
     InvalidSegmentHeader = 8,
-    /// A segment passes the width.
+    /// A segment overruns its row.
     SegmentDoNotFitScanline = 9,
     /// The destination is shorter than width × height.
     ShortPlane = 10,
-    /// A source has fewer than width × height samples; a slice of pixels counts its whole pixels.
+    /// A source has fewer than width × height samples, or complete pixels.
     NotEnoughBytes = 11,
-    /// What is to be written next, a segment or a whole raw body, does not fit into the destination.
+    /// The next segment, or the raw body, does not fit into the destination.
     BufferTooSmall = 12,
 }
 
@@ -72,16 +72,16 @@ impl Refusal {
         match self {
             Refusal::ZeroSize => "the width or the height is 0",
             Refusal::TooLarge => "the width or the height is over 8192",
-            Refusal::LossLevel => "the loss level of AYCoCg is none of 1 to 7",
-            Refusal::InvalidUncompressedDataSize => "the body is shorter than such a picture can be",
+            Refusal::LossLevel => "the loss level of AYCoCg is not 1 to 7",
+            Refusal::InvalidUncompressedDataSize => "the body is shorter than its minimum size",
             Refusal::ShortWork => "the work area is shorter than the three colour planes",
             Refusal::ShortImage => "the image is shorter than three bytes a pixel",
             Refusal::ReadCompressedData => "a control byte or a raw byte is missing",
             Refusal::InvalidSegmentHeader => "a control byte is 0",
-            Refusal::SegmentDoNotFitScanline => "a segment passes the end of its row",
+            Refusal::SegmentDoNotFitScanline => "a segment overruns its row",
             Refusal::ShortPlane => "the destination is shorter than the plane",
             Refusal::NotEnoughBytes => "a source has fewer samples than the plane",
-            Refusal::BufferTooSmall => "what is to be written next does not fit into the destination",
+            Refusal::BufferTooSmall => "the next segment, or the raw body, does not fit into the destination",
         }
     }
 }
@@ -116,7 +116,7 @@ impl TryFrom<u8> for Refusal {
     }
 }
 
-/// A number that no refusal has.
+/// A number that is not the number of a refusal.
 #[derive(Clone, Copy, Debug, PartialEq, Eq)]
 pub struct UnknownNumber(
     /// The number.
@@ -125,7 +125,7 @@ pub struct UnknownNumber(
 
 impl fmt::Display for UnknownNumber {
     fn fmt(&self, f: &mut fmt::Formatter<'_>) -> fmt::Result {
-        write!(f, "there is no refusal {}", self.0)
+        write!(f, "unknown refusal number {}", self.0)
     }
 }
 

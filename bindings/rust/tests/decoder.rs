@@ -1,4 +1,4 @@
-//! `BitmapStreamDecoder`: what it appends, what it leaves alone, what it allocates. What is expected is written from document 01.
+//! `BitmapStreamDecoder`: what it appends, what it leaves alone, what it allocates. The expected results are written from docs/FORMAT.md.
 
 mod support;
 

@@ -1,4 +1,4 @@
-//! Packing a picture. What is expected is written from document 01.
+//! Packing a picture. The expected results are written from docs/FORMAT.md.
 
 mod support;
 
@@ -67,7 +67,7 @@ fn one_pixel() -> Channels {
     ["03", "02", "01", "04"].map(hex)
 }
 
-/// Two rows of 17: R is example 14's, the others are one value throughout. With the segments of each, by document 01's rules.
+/// Two rows of 17: R is example 14's, the others are one value throughout. With the segments of each, by the rules of FORMAT 5.
 fn worked() -> (Channels, [Vec<Vec<u8>>; 4]) {
     let flat = |value: &str| vec![hex(&format!("1F {value}")), hex(&format!("10 {value}")), hex("1F 00"), hex("10 00")];
     let r = ["1F 09", "10 09", "1F 02", "10 02"].map(hex).to_vec();
@@ -219,7 +219,7 @@ fn channels_of_several_kinds() {
     assert_eq!(body, [7, 8, 1, 2, 3, 4, 5, 6, 0]);
 }
 
-/// A service's function over any layout, with the original's bounds.
+/// A service's function over any layout, with IronRDP's bounds.
 fn with_layout<F: PixelFormat + PixelAlpha>(pixels: &[u8], dst: &mut [u8]) -> Result<Encoded, BitmapEncodeError> {
     let width = pixels.len() / F::STRIDE;
     BitmapStreamEncoder::new(width, 1).encode_bitmap_alpha::<F>(pixels, dst, false)

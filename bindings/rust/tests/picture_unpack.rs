@@ -1,4 +1,4 @@
-//! Unpacking a picture over lent slices. What is expected is written from document 01.
+//! Unpacking a picture into slices of the caller. The expected results are written from docs/FORMAT.md.
 
 mod support;
 
@@ -118,7 +118,7 @@ fn slices_may_be_longer() {
     assert_eq!(unpack(argb(true, false), &padded(&rle), (7, 7), (2, 1)), longer);
 }
 
-/// All that can be wrong at once, in all combinations: the first in document 01's order is answered, and nothing is changed before 7.
+/// All that can be wrong at once, in all combinations: the first in the order of FORMAT 8.2 is answered, and nothing is changed before 7.
 #[test]
 fn tests_come_in_order() {
     let whole = hex("10 FF 10 64 10 0A 10 14");

@@ -1,4 +1,4 @@
-//! Planes, both ways. What is expected is written from document 01.
+//! Planes, both ways. The expected results are written from docs/FORMAT.md.
 
 mod support;
 
@@ -152,7 +152,7 @@ fn the_largest_sides() {
     assert_eq!(pack(&[0; 8192], 2 * 8192, 1, 8192).0, Ok(2 * 8192));
 }
 
-/// A plane whose packing was worked out by document 01's rules: for each row its samples, and its segments with the coded values that
+/// A plane whose packing was worked out by the rules of FORMAT 5: for each row its samples, and its segments with the coded values that
 /// they stand for.
 struct Worked {
     width: usize,

@@ -1,11 +1,11 @@
-//! The refusals: document 01's numbers, their texts, the names of the original.
+//! The refusals: the numbers of FORMAT 8.1, their texts, IronRDP's names.
 
 use std::collections::HashSet;
 use std::error::Error;
 
 use rdp6::{Refusal, UnknownNumber};
 
-/// Document 01's table, by number.
+/// FORMAT 8.1.
 const TABLE: [(u8, Refusal); 12] = [
     (1, Refusal::ZeroSize),
     (2, Refusal::TooLarge),
@@ -37,7 +37,7 @@ fn every_number_of_the_table_and_no_other_is_a_refusal() {
         let expected = known.map(|(_, refusal)| *refusal).ok_or(UnknownNumber(number));
         assert_eq!(Refusal::try_from(number), expected);
     }
-    assert_eq!(UnknownNumber(13).to_string(), "there is no refusal 13");
+    assert_eq!(UnknownNumber(13).to_string(), "unknown refusal number 13");
 }
 
 #[test]
@@ -61,7 +61,7 @@ fn a_refusal_is_an_error_that_can_be_sent_to_another_thread() {
     assert!(error.source().is_none());
 }
 
-/// A service that names the original's errors, by their paths there.
+/// A service that names IronRDP's errors, by their paths there.
 mod service {
     use rdp6::bitmap_stream::decoder::BitmapDecodeError;
     use rdp6::bitmap_stream::encoder::BitmapEncodeError;

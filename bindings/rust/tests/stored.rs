@@ -1,5 +1,5 @@
-//! The stored cases of crates/vectors/data through the functions of this crate: most are the original's answers, the rest is written from
-//! document 01. docs/TESTS.md has what they are, differential/README.md what a line is.
+//! The stored cases of crates/vectors/data through the functions of this crate: most are IronRDP's answers, the rest is written from
+//! docs/FORMAT.md. docs/TESTS.md has what they are, differential/README.md what a line is.
 
 mod support;
 
@@ -48,8 +48,8 @@ type Plane = fn(&[u8], &mut [u8], usize, usize) -> Result<usize, Refusal>;
 /// WIDTH HEIGHT ROOM ANSWER SOURCE AFTER
 fn check_plane(function: Plane, case: &[&str]) {
     let mut dst = Lent::filled(0xEE, number(case[2]));
-    let told = function(&hex(case[4]), dst.lend(), number(case[0]), number(case[1]));
-    assert_eq!(told, answer(case[3]), "{case:?}");
+    let result = function(&hex(case[4]), dst.lend(), number(case[0]), number(case[1]));
+    assert_eq!(result, answer(case[3]), "{case:?}");
     assert_eq!(dst.after(), hex(case[5]), "{case:?}");
 }
 
@@ -77,9 +77,9 @@ fn round_trips_cut() {
         let (width, height, end) = (number(case[0]), number(case[1]), number(case[2]));
         let mut packed = vec![0xC7; 20_000];
         let mut dst = Lent::filled(0xEE, number(case[3]));
-        let told = compress_8bpp_plane(&hex(case[5]), &mut packed, width, height)
+        let result = compress_8bpp_plane(&hex(case[5]), &mut packed, width, height)
             .and_then(|_| decompress_8bpp_plane(&packed[..end], dst.lend(), width, height));
-        assert_eq!(told, answer(case[4]), "{case:?}");
+        assert_eq!(result, answer(case[4]), "{case:?}");
         assert_eq!(dst.after(), hex(case[6]), "{case:?}");
     });
 }
@@ -100,8 +100,8 @@ fn check_picture(decoder: &mut BitmapStreamDecoder, case: &[&str]) {
     // The decoder makes its own room, so that it gets past 5 and 6.
     if !matches!(expected, Err(Refusal::ShortWork | Refusal::ShortImage)) {
         let mut dst = vec![0x77];
-        let told = decoder.decode_body_to_rgb24(header, &body, &mut dst, width, height);
-        assert_eq!(told, expected.map(|_| ()), "{case:?}");
+        let result = decoder.decode_body_to_rgb24(header, &body, &mut dst, width, height);
+        assert_eq!(result, expected.map(|_| ()), "{case:?}");
         assert_eq!(dst[1..], hex(case[12])[..expected.unwrap_or(0)], "{case:?}");
     }
 }
@@ -128,12 +128,12 @@ fn channels_packed() {
             let mut encoder = BitmapStreamEncoder::new(number(case[0]), number(case[1]));
             let (rle, mut dst) = (flag(case[2]), Lent::filled(0xEE, number(case[4])));
             let (r, g, b) = (hex(case[9]), hex(case[10]), hex(case[11]));
-            let told = if flag(case[3]) {
+            let result = if flag(case[3]) {
                 encoder.encode_channels_stream_alpha((r, g, b, hex(case[12])), dst.lend(), rle)
             } else {
                 encoder.encode_channels_stream((r, g, b), dst.lend(), rle)
             };
-            assert_eq!(told, encoded(&case[5..9]), "{case:?}");
+            assert_eq!(result, encoded(&case[5..9]), "{case:?}");
             assert_eq!(dst.after(), hex(case[13]), "{case:?}");
         });
     }
@@ -147,12 +147,12 @@ fn pixels_packed() {
             let mut encoder = BitmapStreamEncoder::new(number(case[0]), number(case[1]));
             let (rle, mut dst) = (flag(case[2]), Lent::filled(0xEE, number(case[4])));
             let pixels = hex(case[9]);
-            let told = if flag(case[3]) {
+            let result = if flag(case[3]) {
                 encoder.encode_bitmap_alpha::<BgrAChannels>(&pixels, dst.lend(), rle)
             } else {
                 encoder.encode_bitmap::<BgrAChannels>(&pixels, dst.lend(), rle)
             };
-            assert_eq!(told, encoded(&case[5..9]), "{case:?}");
+            assert_eq!(result, encoded(&case[5..9]), "{case:?}");
             assert_eq!(dst.after(), hex(case[10]), "{case:?}");
         });
     }

@@ -1,27 +1,27 @@
-// The colour of an AYCoCg pixel (MS-RDPEGDI 3.1.9.1.2).
+// The colour of an AYCoCg pixel (FORMAT 6.4, 6.5; MS-RDPEGDI 3.1.9.1.2).
 ghost use mathlib.Core.Path.{_≡_};
 ghost use Prim.Native.Nat.{_≤_};
-ghost use Rattle.bitmap_format.specs.Colour.{chroma, clip, ycocg, aycocgColour};
+ghost use Rattle.bitmap_format.specs.Colour.{chromaValue, clip, ycocg, aycocgColour};
 use bitmap_format::Rgb;
 
-// What the colours of a picture depend on, beside its samples.
+// What the colours of a picture depend on besides its samples.
 pub(crate) struct AYCoCgParams {
     pub color_loss_level: u8,
     pub chroma_subsampling: bool,
     pub alpha: bool,
 }
 
-// A chroma byte at a loss level. The multiplication is that of a byte, so that its upper bits are lost before the sign is looked at.
-// The sign is read by adding 128 modulo 256 and taking it off again, of which the loops over a row get a wide shift and no test.
+// The value of a chroma sample. The multiplication wraps at 8 bits, before the sign is taken. The sign is taken by adding 128 with wrapping and
+// subtracting it again, which the compiler vectorises better than a test.
 fn chroma_value(cll: u8, byte: u8) -> i16
     requires { ⌜ (1 ≤ cll) × (cll ≤ 7) ⌝ }
-    ensures { λ r. ⌜ r ≡ chroma cll byte ⌝ }
+    ensures { λ r. ⌜ r ≡ chromaValue cll byte ⌝ }
 {
     let scaled = byte << (cll - 1);
     std::num::wrapping_add_u8(scaled, 128) as i16 - 128
 }
 
-// One limit after the other and then the cast: of these three the loops over a row get a single wide instruction.
+// Lower limit, upper limit, cast: the compiler makes one saturating vector instruction of this order.
 fn clip_i16(v: i16) -> u8
     ensures { λ r. ⌜ r ≡ clip v ⌝ }
 {
@@ -30,7 +30,7 @@ fn clip_i16(v: i16) -> u8
     clipped as u8
 }
 
-// The colour as the planes have it.
+// The three colours of a pixel, before it is known which is R and which is B.
 fn ycocg_with_cll_to_rgb(cll: u8, y: u8, co: u8, cg: u8) -> Rgb
     requires { ⌜ (1 ≤ cll) × (cll ≤ 7) ⌝ }
     ensures { λ r. ⌜ r ≡ ycocg cll y co cg ⌝ }
@@ -44,7 +44,7 @@ fn ycocg_with_cll_to_rgb(cll: u8, y: u8, co: u8, cg: u8) -> Rgb
     Rgb { r, g, b }
 }
 
-// The colour as it is shown: without alpha the planes have red and blue exchanged.
+// The colour of a pixel: without the alpha flag red and blue change places.
 pub(crate) fn aycocg_color(params: AYCoCgParams, y: u8, co: u8, cg: u8) -> Rgb
     requires { ⌜ (1 ≤ params .«color_loss_level») × (params .«color_loss_level» ≤ 7) ⌝ }
     ensures { λ r. ⌜ r ≡ aycocgColour (params .alpha) (params .«color_loss_level») y co cg ⌝ }

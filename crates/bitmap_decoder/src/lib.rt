@@ -1,4 +1,4 @@
-// Unpacks a picture of RDP 6.0 (MS-RDPEGDI 3.1.9.1): the Rust's rdp6/bitmap_stream/decoder.rs.
+// Unpacks a picture (FORMAT 2, 6; MS-RDPEGDI 3.1.9.1): IronRDP's rdp6/bitmap_stream/decoder.rs.
 mod color;
 mod image;
 mod planes;
@@ -8,11 +8,11 @@ ghost use mathlib.Core.Path.{_≡_};
 ghost use mathlib.Core.Bool.{false};
 ghost use Prim.Native.Nat.{_+_, _≤_};
 ghost use lib.ListN.{length, drop};
-ghost use Rattle.rle_format.specs.Answer.{told};
+ghost use Rattle.rle_format.specs.Answer.{toAnswer};
 ghost use Rattle.bitmap_format.specs.Planes.{subsampled, colourPlanes, alphaPlanes};
-ghost use Rattle.bitmap_format.specs.Sizes.{samples, total, rowSize, imageSize};
-ghost use Rattle.bitmap_format.specs.Image.{imageRow, placed};
-ghost use Rattle.bitmap_format.specs.Picture.{lossWrong, rlePicture, unpackPicture, toldDecoded};
+ghost use Rattle.bitmap_format.specs.Sizes.{sampleCount, sumOver, rowSize, imageSize};
+ghost use Rattle.bitmap_format.specs.Image.{imageRow, writeRows};
+ghost use Rattle.bitmap_format.specs.Picture.{isLossLevelInvalid, unpackRle, unpackPicture, decodedToAnswer};
 use bitmap_format::BitmapStreamHeader;
 use bitmap_format::ColorPlaneDefinition;
 use bitmap_format::Decoded;
@@ -23,7 +23,7 @@ use image::write_aycocg_planes_to_rgb24;
 use planes::decompress_planes;
 use rle_format::Unpacked;
 
-// Writes the image of a picture, whose colour planes stand at the start of planes.
+// Writes the image of a picture. `planes` begins with its three colour planes.
 fn write_planes(
     header: BitmapStreamHeader,
     planes: &[u8],
@@ -31,8 +31,8 @@ fn write_planes(
     width: usize,
     height: usize,
 )
-    requires { ⌜ (lossWrong (header .«color_plane_definition») ≡ false) × (width ≤ 8192) × (height ≤ 8192) × (total samples (colourPlanes (subsampled (header .«color_plane_definition»)) width height) ≤ length (now planes)) × (imageSize width height ≤ length (now image)) ⌝ }
-    ensures { λ _. ⌜ now (image .exit) ≡ placed (rowSize width) (imageRow (header .«color_plane_definition») (header .«use_alpha») width height (now (planes .entry))) height (now (image .entry)) ⌝ }
+    requires { ⌜ (isLossLevelInvalid (header .«color_plane_definition») ≡ false) × (width ≤ 8192) × (height ≤ 8192) × (sumOver sampleCount (colourPlanes (subsampled (header .«color_plane_definition»)) width height) ≤ length (now planes)) × (imageSize width height ≤ length (now image)) ⌝ }
+    ensures { λ _. ⌜ now (image .exit) ≡ writeRows (rowSize width) (imageRow (header .«color_plane_definition») (header .«use_alpha») width height (now (planes .entry))) height (now (image .entry)) ⌝ }
 {
     let definition = header.color_plane_definition;
     let alpha = header.use_alpha;
@@ -52,9 +52,9 @@ fn write_planes(
     }
 }
 
-// The refusal of a plane as that of its picture.
-fn refused_by(answer: Unpacked) -> Decoded
-    ensures { λ r. ⌜ toldDecoded r ≡ told answer ⌝ }
+// The refusal of a plane as the answer of its picture.
+fn planes_refusal(answer: Unpacked) -> Decoded
+    ensures { λ r. ⌜ decodedToAnswer r ≡ toAnswer answer ⌝ }
 {
     match answer {
         Unpacked::Refused(reason) => Decoded::Refused(reason),
@@ -62,7 +62,7 @@ fn refused_by(answer: Unpacked) -> Decoded
     }
 }
 
-// Unpacks an RLE picture that was tested. The image is written once all planes are read, so that no refusal touches it.
+// Unpacks an RLE picture that passed all checks. The image is written after the last plane is read, so that no refusal changes it.
 fn decode_rle(
     header: BitmapStreamHeader,
     body: &[u8],
@@ -71,23 +71,23 @@ fn decode_rle(
     width: usize,
     height: usize,
 ) -> Decoded
-    requires { ⌜ (lossWrong (header .«color_plane_definition») ≡ false) × (width ≤ 8192) × (height ≤ 8192) × (total samples (colourPlanes (subsampled (header .«color_plane_definition»)) width height) ≤ length (now work)) × (imageSize width height ≤ length (now image)) ⌝ }
-    ensures answer { λ r. ⌜ toldDecoded r ≡ rlePicture header width height (now (body .entry)) (now (work .entry)) (now (image .entry)) .answer ⌝ }
-    ensures work { λ _. ⌜ now (work .exit) ≡ rlePicture header width height (now (body .entry)) (now (work .entry)) (now (image .entry)) .work ⌝ }
-    ensures image { λ _. ⌜ now (image .exit) ≡ rlePicture header width height (now (body .entry)) (now (work .entry)) (now (image .entry)) .image ⌝ }
+    requires { ⌜ (isLossLevelInvalid (header .«color_plane_definition») ≡ false) × (width ≤ 8192) × (height ≤ 8192) × (sumOver sampleCount (colourPlanes (subsampled (header .«color_plane_definition»)) width height) ≤ length (now work)) × (imageSize width height ≤ length (now image)) ⌝ }
+    ensures answer { λ r. ⌜ decodedToAnswer r ≡ unpackRle header width height (now (body .entry)) (now (work .entry)) (now (image .entry)) .answer ⌝ }
+    ensures work { λ _. ⌜ now (work .exit) ≡ unpackRle header width height (now (body .entry)) (now (work .entry)) (now (image .entry)) .work ⌝ }
+    ensures image { λ _. ⌜ now (image .exit) ≡ unpackRle header width height (now (body .entry)) (now (work .entry)) (now (image .entry)) .image ⌝ }
 {
     let answer = decompress_planes(header, body, work, width, height);
     let Unpacked::Read(_) = answer else {
-        return refused_by(answer);
+        return planes_refusal(answer);
     };
     write_planes(header, &work[0..], image, width, height);
     Decoded::Written(3 * width * height)
 }
 
-// The bytes of alpha in a raw body.
+// The size of alpha in a raw body.
 fn alpha_size(alpha: bool, width: usize, height: usize) -> usize
     requires { ⌜ (width ≤ 8192) × (height ≤ 8192) ⌝ }
-    ensures { λ r. ⌜ r ≡ total samples (alphaPlanes alpha width height) ⌝ }
+    ensures { λ r. ⌜ r ≡ sumOver sampleCount (alphaPlanes alpha width height) ⌝ }
 {
     if alpha {
         return width * height;
@@ -95,7 +95,7 @@ fn alpha_size(alpha: bool, width: usize, height: usize) -> usize
     0
 }
 
-// Unpacks a raw picture that was tested: its planes stand in the body as they are, and alpha is passed over.
+// Unpacks a raw picture that passed all checks, from its planes in the body. Alpha is skipped.
 fn decode_raw(
     header: BitmapStreamHeader,
     body: &[u8],
@@ -103,16 +103,15 @@ fn decode_raw(
     width: usize,
     height: usize,
 )
-    requires { ⌜ (lossWrong (header .«color_plane_definition») ≡ false) × (width ≤ 8192) × (height ≤ 8192) × (total samples (alphaPlanes (header .«use_alpha») width height) + total samples (colourPlanes (subsampled (header .«color_plane_definition»)) width height) ≤ length (now body)) × (imageSize width height ≤ length (now image)) ⌝ }
-    ensures { λ _. ⌜ now (image .exit) ≡ placed (rowSize width) (imageRow (header .«color_plane_definition») (header .«use_alpha») width height (drop (total samples (alphaPlanes (header .«use_alpha») width height)) (now (body .entry)))) height (now (image .entry)) ⌝ }
+    requires { ⌜ (isLossLevelInvalid (header .«color_plane_definition») ≡ false) × (width ≤ 8192) × (height ≤ 8192) × (sumOver sampleCount (alphaPlanes (header .«use_alpha») width height) + sumOver sampleCount (colourPlanes (subsampled (header .«color_plane_definition»)) width height) ≤ length (now body)) × (imageSize width height ≤ length (now image)) ⌝ }
+    ensures { λ _. ⌜ now (image .exit) ≡ writeRows (rowSize width) (imageRow (header .«color_plane_definition») (header .«use_alpha») width height (drop (sumOver sampleCount (alphaPlanes (header .«use_alpha») width height)) (now (body .entry)))) height (now (image .entry)) ⌝ }
 {
     let start = alpha_size(header.use_alpha, width, height);
     write_planes(header, &body[start..], image, width, height);
 }
 
-// Unpacks a picture from its body into the first 3 × width × height bytes of the image, R, G and B of each pixel, row by row from the
-// top, and answers how many bytes that are. An RLE picture goes by way of the work area; a raw one does not touch it.
-// On every input: refusals 1 to 9 of document 01 in that document's order, and every byte of work area and image as it says.
+// Unpacks a picture from its body into the first 3 × width × height bytes of the image, and returns that number. An RLE picture uses the work area;
+// a raw one does not change it. Refusals 1 to 6, then 7, 8, 9; FORMAT 8.3 says what each leaves.
 pub fn decode(
     header: BitmapStreamHeader,
     body: &[u8],
@@ -121,7 +120,7 @@ pub fn decode(
     width: usize,
     height: usize,
 ) -> Decoded
-    ensures answer { λ r. ⌜ toldDecoded r ≡ unpackPicture header width height (now (body .entry)) (now (work .entry)) (now (image .entry)) .answer ⌝ }
+    ensures answer { λ r. ⌜ decodedToAnswer r ≡ unpackPicture header width height (now (body .entry)) (now (work .entry)) (now (image .entry)) .answer ⌝ }
     ensures work { λ _. ⌜ now (work .exit) ≡ unpackPicture header width height (now (body .entry)) (now (work .entry)) (now (image .entry)) .work ⌝ }
     ensures image { λ _. ⌜ now (image .exit) ≡ unpackPicture header width height (now (body .entry)) (now (work .entry)) (now (image .entry)) .image ⌝ }
 {

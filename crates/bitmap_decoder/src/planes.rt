@@ -1,19 +1,19 @@
-// The RLE planes of a picture, unpacked one after the other into the work area.
+// Unpacking the RLE planes of a picture into the work area (FORMAT 2.4, 2.5).
 ghost use mathlib.Core.Path.{_≡_};
 ghost use Prim.Native.Nat.{_≤_};
 ghost use lib.ListN.{length, drop};
-ghost use Rattle.rle_format.specs.Answer.{told, more};
-ghost use Rattle.rle_format.specs.Slice.{putAt};
+ghost use Rattle.rle_format.specs.Answer.{toAnswer, addCount};
+ghost use Rattle.rle_format.specs.Slice.{writeAt};
 ghost use Rattle.bitmap_format.specs.Planes.{planeAt, subsampled, colourPlanes, alphaPlanes, planesOf};
-ghost use Rattle.bitmap_format.specs.Sizes.{samples, total};
-ghost use Rattle.bitmap_format.specs.UnpackPlanes.{planeInto, ahead, unpackPlanes};
+ghost use Rattle.bitmap_format.specs.Sizes.{sampleCount, sumOver};
+ghost use Rattle.bitmap_format.specs.UnpackPlanes.{unpackPlaneAt, addRead, unpackPlanes};
 use bitmap_format::BitmapStreamHeader;
 use bitmap_format::chroma_side;
 use bitmap_format::has_subsampled_chroma;
 use rle_decoder::decompress_8bpp_plane;
 use rle_format::Unpacked;
 
-// Unpacks a plane from `at` of the body on into the work area from offset on. The answer is where it stopped reading.
+// Unpacks a plane, from index `at` of the body on, into the work area from `offset` on. Returns the index in the body where the plane ends.
 fn decompress_next_plane(
     body: &[u8],
     at: usize,
@@ -23,8 +23,8 @@ fn decompress_next_plane(
     height: usize,
 ) -> Unpacked
     requires { ⌜ (at ≤ length (now body)) × (offset ≤ length (now work)) ⌝ }
-    ensures answer { λ r. ⌜ told r ≡ more at (planeInto (planeAt width height offset) (now (work .entry)) (drop at (now (body .entry))) .answer) ⌝ }
-    ensures slice { λ _. ⌜ now (work .exit) ≡ putAt (now (work .entry)) offset (planeInto (planeAt width height offset) (now (work .entry)) (drop at (now (body .entry))) .written) ⌝ }
+    ensures answer { λ r. ⌜ toAnswer r ≡ addCount at (unpackPlaneAt (planeAt width height offset) (now (work .entry)) (drop at (now (body .entry))) .answer) ⌝ }
+    ensures slice { λ _. ⌜ now (work .exit) ≡ writeAt (now (work .entry)) offset (unpackPlaneAt (planeAt width height offset) (now (work .entry)) (drop at (now (body .entry))) .written) ⌝ }
 {
     let answer = decompress_8bpp_plane(&body[at..], &mut work[offset..], width, height);
     let Unpacked::Read(read) = answer else {
@@ -33,7 +33,7 @@ fn decompress_next_plane(
     Unpacked::Read(at + read)
 }
 
-// Unpacks alpha, if it is flagged, to the start of the work area.
+// Unpacks alpha, if flagged, to the start of the work area.
 fn decompress_alpha(
     alpha: bool,
     body: &[u8],
@@ -41,7 +41,7 @@ fn decompress_alpha(
     width: usize,
     height: usize,
 ) -> Unpacked
-    ensures answer { λ r. ⌜ told r ≡ unpackPlanes (alphaPlanes alpha width height) (now (work .entry)) (now (body .entry)) .answer ⌝ }
+    ensures answer { λ r. ⌜ toAnswer r ≡ unpackPlanes (alphaPlanes alpha width height) (now (work .entry)) (now (body .entry)) .answer ⌝ }
     ensures slice { λ _. ⌜ now (work .exit) ≡ unpackPlanes (alphaPlanes alpha width height) (now (work .entry)) (now (body .entry)) .work ⌝ }
 {
     if alpha {
@@ -50,7 +50,7 @@ fn decompress_alpha(
     Unpacked::Read(0)
 }
 
-// Unpacks the three colour planes from place `from` of the body on. The answer counts the bytes before it too.
+// Unpacks the three colour planes, from index `from` of the body on. Returns the index where they end.
 fn decompress_color_planes(
     body: &[u8],
     from: usize,
@@ -59,9 +59,9 @@ fn decompress_color_planes(
     height: usize,
     subsampling: bool,
 ) -> Unpacked
-    requires { ⌜ (from ≤ length (now body)) × (width ≤ 8192) × (height ≤ 8192) × (total samples (colourPlanes subsampling width height) ≤ length (now work)) ⌝ }
-    ensures answer { λ r. ⌜ told r ≡ ahead from (unpackPlanes (colourPlanes subsampling width height) (now (work .entry)) (drop from (now (body .entry)))) .answer ⌝ }
-    ensures slice { λ _. ⌜ now (work .exit) ≡ ahead from (unpackPlanes (colourPlanes subsampling width height) (now (work .entry)) (drop from (now (body .entry)))) .work ⌝ }
+    requires { ⌜ (from ≤ length (now body)) × (width ≤ 8192) × (height ≤ 8192) × (sumOver sampleCount (colourPlanes subsampling width height) ≤ length (now work)) ⌝ }
+    ensures answer { λ r. ⌜ toAnswer r ≡ addRead from (unpackPlanes (colourPlanes subsampling width height) (now (work .entry)) (drop from (now (body .entry)))) .answer ⌝ }
+    ensures slice { λ _. ⌜ now (work .exit) ≡ addRead from (unpackPlanes (colourPlanes subsampling width height) (now (work .entry)) (drop from (now (body .entry)))) .work ⌝ }
 {
     let full = width * height;
     let chroma_width = chroma_side(subsampling, width);
@@ -86,8 +86,8 @@ pub(crate) fn decompress_planes(
     width: usize,
     height: usize,
 ) -> Unpacked
-    requires { ⌜ (width ≤ 8192) × (height ≤ 8192) × (total samples (colourPlanes (subsampled (header .«color_plane_definition»)) width height) ≤ length (now work)) ⌝ }
-    ensures answer { λ r. ⌜ told r ≡ unpackPlanes (planesOf header width height) (now (work .entry)) (now (body .entry)) .answer ⌝ }
+    requires { ⌜ (width ≤ 8192) × (height ≤ 8192) × (sumOver sampleCount (colourPlanes (subsampled (header .«color_plane_definition»)) width height) ≤ length (now work)) ⌝ }
+    ensures answer { λ r. ⌜ toAnswer r ≡ unpackPlanes (planesOf header width height) (now (work .entry)) (now (body .entry)) .answer ⌝ }
     ensures slice { λ _. ⌜ now (work .exit) ≡ unpackPlanes (planesOf header width height) (now (work .entry)) (now (body .entry)) .work ⌝ }
 {
     let alpha = decompress_alpha(header.use_alpha, body, work, width, height);

@@ -1,4 +1,4 @@
-// Packs a picture of RDP 6.0 (document 01, "Packing a picture"): the Rust's rdp6/bitmap_stream/encoder.rs, behind its header byte.
+// Packs a picture (FORMAT 7): IronRDP's rdp6/bitmap_stream/encoder.rs, without the header byte.
 mod planes;
 mod raw;
 mod rle;
@@ -7,10 +7,10 @@ mod sources;
 ghost use mathlib.Core.Path.{_≡_};
 ghost use mathlib.Core.Bool.{true, false};
 ghost use lib.ListN.{length};
-ghost use Rattle.rle_format.specs.Answer.{toldPacked};
-ghost use Rattle.rle_format.specs.Slice.{over};
+ghost use Rattle.rle_format.specs.Answer.{packedToAnswer};
+ghost use Rattle.rle_format.specs.Slice.{overwrite};
 ghost use Rattle.pixel_format.specs.Channel.{bgrA};
-ghost use Rattle.bitmap_format.specs.PackPicture.{threePlanes, fourPlanes, pixelPlanes, pixelPlanesAlpha, packPicture, headerToSend, sentWith, toldEncoded};
+ghost use Rattle.bitmap_format.specs.PackPicture.{threePlanes, fourPlanes, pixelPlanes, pixelPlanesAlpha, packPicture, headerToSend, withHeader, encodedToAnswer};
 use bitmap_format::BitmapStreamHeader;
 use bitmap_format::ColorPlaneDefinition;
 use bitmap_format::Encoded;
@@ -19,7 +19,7 @@ use planes::encode_four;
 use planes::encode_three;
 use rle_format::Packed;
 
-// The header record to send, by whether there is an alpha plane and by what was asked. The alpha flag is false with an alpha plane too.
+// The header record to send (FORMAT 7.5). The alpha flag is false with an alpha plane too.
 fn header_to_send(alpha: bool, rle: bool) -> BitmapStreamHeader
     ensures { λ h. ⌜ h ≡ headerToSend alpha rle ⌝ }
 {
@@ -30,9 +30,9 @@ fn header_to_send(alpha: bool, rle: bool) -> BitmapStreamHeader
     }
 }
 
-// What a packer answers: a count goes out with the header record, a refusal alone.
+// The answer of a packer: a number of bytes with the header record, or a refusal.
 fn encoded(answer: Packed, alpha: bool, rle: bool) -> Encoded
-    ensures { λ e. ⌜ toldEncoded e ≡ sentWith (headerToSend alpha rle) (toldPacked answer) ⌝ }
+    ensures { λ e. ⌜ encodedToAnswer e ≡ withHeader (headerToSend alpha rle) (packedToAnswer answer) ⌝ }
 {
     match answer {
         Packed::Written(bytes) => Encoded::Written {
@@ -43,8 +43,8 @@ fn encoded(answer: Packed, alpha: bool, rle: bool) -> Encoded
     }
 }
 
-// Packs a picture from its R, G and B, each in a slice of its own, into the first bytes of dst. On every input: refusals 1, 2, 11 and 12 of
-// document 01 in that document's order, and every byte of dst as it says.
+// Packs a picture from its R, G and B, each in a slice of its own, into the first bytes of dst. Refusals 1, 2, 11, then 12; FORMAT 8.3 says what
+// each leaves in dst.
 pub fn encode_channels_stream(
     r: &[u8],
     g: &[u8],
@@ -54,14 +54,14 @@ pub fn encode_channels_stream(
     width: usize,
     height: usize,
 ) -> Encoded
-    ensures answer { λ e. ⌜ toldEncoded e ≡ sentWith (headerToSend false rle) (packPicture rle width height (length (now (dst .entry))) (threePlanes (now (r .entry)) (now (g .entry)) (now (b .entry))) .answer) ⌝ }
-    ensures slice { λ _. ⌜ now (dst .exit) ≡ over (now (dst .entry)) (packPicture rle width height (length (now (dst .entry))) (threePlanes (now (r .entry)) (now (g .entry)) (now (b .entry))) .written) ⌝ }
+    ensures answer { λ e. ⌜ encodedToAnswer e ≡ withHeader (headerToSend false rle) (packPicture rle width height (length (now (dst .entry))) (threePlanes (now (r .entry)) (now (g .entry)) (now (b .entry))) .answer) ⌝ }
+    ensures slice { λ _. ⌜ now (dst .exit) ≡ overwrite (now (dst .entry)) (packPicture rle width height (length (now (dst .entry))) (threePlanes (now (r .entry)) (now (g .entry)) (now (b .entry))) .written) ⌝ }
 {
     let answer = encode_three(r, g, b, Layout::Planar, dst, rle, width, height);
     encoded(answer, false, rle)
 }
 
-// The same with a plane for alpha, which goes out first.
+// The same with an alpha plane, which is the first.
 pub fn encode_channels_stream_alpha(
     r: &[u8],
     g: &[u8],
@@ -72,17 +72,17 @@ pub fn encode_channels_stream_alpha(
     width: usize,
     height: usize,
 ) -> Encoded
-    ensures answer { λ e. ⌜ toldEncoded e ≡ sentWith (headerToSend true rle) (packPicture rle width height (length (now (dst .entry))) (fourPlanes (now (r .entry)) (now (g .entry)) (now (b .entry)) (now (a .entry))) .answer) ⌝ }
-    ensures slice { λ _. ⌜ now (dst .exit) ≡ over (now (dst .entry)) (packPicture rle width height (length (now (dst .entry))) (fourPlanes (now (r .entry)) (now (g .entry)) (now (b .entry)) (now (a .entry))) .written) ⌝ }
+    ensures answer { λ e. ⌜ encodedToAnswer e ≡ withHeader (headerToSend true rle) (packPicture rle width height (length (now (dst .entry))) (fourPlanes (now (r .entry)) (now (g .entry)) (now (b .entry)) (now (a .entry))) .answer) ⌝ }
+    ensures slice { λ _. ⌜ now (dst .exit) ≡ overwrite (now (dst .entry)) (packPicture rle width height (length (now (dst .entry))) (fourPlanes (now (r .entry)) (now (g .entry)) (now (b .entry)) (now (a .entry))) .written) ⌝ }
 {
     let answer = encode_four(r, g, b, a, Layout::Planar, dst, rle, width, height);
     encoded(answer, true, rle)
 }
 
-// Packs a picture from its pixels, in the layout of BgrAChannels, without their alpha.
+// Packs a picture from pixels of B, G, R, A, without their alpha.
 pub fn encode_bitmap(src: &[u8], dst: &mut [u8], rle: bool, width: usize, height: usize) -> Encoded
-    ensures answer { λ e. ⌜ toldEncoded e ≡ sentWith (headerToSend false rle) (packPicture rle width height (length (now (dst .entry))) (pixelPlanes bgrA (now (src .entry))) .answer) ⌝ }
-    ensures slice { λ _. ⌜ now (dst .exit) ≡ over (now (dst .entry)) (packPicture rle width height (length (now (dst .entry))) (pixelPlanes bgrA (now (src .entry))) .written) ⌝ }
+    ensures answer { λ e. ⌜ encodedToAnswer e ≡ withHeader (headerToSend false rle) (packPicture rle width height (length (now (dst .entry))) (pixelPlanes bgrA (now (src .entry))) .answer) ⌝ }
+    ensures slice { λ _. ⌜ now (dst .exit) ≡ overwrite (now (dst .entry)) (packPicture rle width height (length (now (dst .entry))) (pixelPlanes bgrA (now (src .entry))) .written) ⌝ }
 {
     let answer = encode_three(src, src, src, Layout::BgrA, dst, rle, width, height);
     encoded(answer, false, rle)
@@ -96,8 +96,8 @@ pub fn encode_bitmap_alpha(
     width: usize,
     height: usize,
 ) -> Encoded
-    ensures answer { λ e. ⌜ toldEncoded e ≡ sentWith (headerToSend true rle) (packPicture rle width height (length (now (dst .entry))) (pixelPlanesAlpha bgrA (now (src .entry))) .answer) ⌝ }
-    ensures slice { λ _. ⌜ now (dst .exit) ≡ over (now (dst .entry)) (packPicture rle width height (length (now (dst .entry))) (pixelPlanesAlpha bgrA (now (src .entry))) .written) ⌝ }
+    ensures answer { λ e. ⌜ encodedToAnswer e ≡ withHeader (headerToSend true rle) (packPicture rle width height (length (now (dst .entry))) (pixelPlanesAlpha bgrA (now (src .entry))) .answer) ⌝ }
+    ensures slice { λ _. ⌜ now (dst .exit) ≡ overwrite (now (dst .entry)) (packPicture rle width height (length (now (dst .entry))) (pixelPlanesAlpha bgrA (now (src .entry))) .written) ⌝ }
 {
     let answer = encode_four(src, src, src, src, Layout::BgrA, dst, rle, width, height);
     encoded(answer, true, rle)

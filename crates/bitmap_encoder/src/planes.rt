@@ -1,17 +1,16 @@
-// A picture from the slices of its channels, which all have one layout: each channel in a slice of its own, or all in one slice of pixels, which is
-// then handed over for each of them.
+// Packing a picture from the slices of its channels, which all have the same layout. If that is pixels, the same slice is passed for each channel.
 ghost use mathlib.Core.Path.{_≡_};
 ghost use lib.ListN.{length};
-ghost use Rattle.rle_format.specs.Answer.{toldPacked};
-ghost use Rattle.rle_format.specs.Slice.{over};
+ghost use Rattle.rle_format.specs.Answer.{packedToAnswer};
+ghost use Rattle.rle_format.specs.Slice.{overwrite};
 ghost use Rattle.bitmap_format.specs.PackPicture.{packPicture};
-ghost use Rattle.bitmap_encoder.specs.Sources.{threeOf, fourOf};
+ghost use Rattle.bitmap_encoder.specs.Sources.{threeChannels, fourChannels};
 use crate::raw::write_colors;
 use crate::raw::write_plane;
 use crate::rle::compress_colors;
 use crate::rle::compress_next_plane;
-use crate::sources::test_colors;
-use crate::sources::test_sources;
+use crate::sources::check_colors;
+use crate::sources::check_sources;
 use pixel_format::Channel;
 use pixel_format::Layout;
 use rle_format::Packed;
@@ -28,10 +27,10 @@ pub(crate) fn encode_three(
     width: usize,
     height: usize,
 ) -> Packed
-    ensures answer { λ p. ⌜ toldPacked p ≡ packPicture rle width height (length (now (dst .entry))) (threeOf layout (now (r .entry)) (now (g .entry)) (now (b .entry))) .answer ⌝ }
-    ensures slice { λ _. ⌜ now (dst .exit) ≡ over (now (dst .entry)) (packPicture rle width height (length (now (dst .entry))) (threeOf layout (now (r .entry)) (now (g .entry)) (now (b .entry))) .written) ⌝ }
+    ensures answer { λ p. ⌜ packedToAnswer p ≡ packPicture rle width height (length (now (dst .entry))) (threeChannels layout (now (r .entry)) (now (g .entry)) (now (b .entry))) .answer ⌝ }
+    ensures slice { λ _. ⌜ now (dst .exit) ≡ overwrite (now (dst .entry)) (packPicture rle width height (length (now (dst .entry))) (threeChannels layout (now (r .entry)) (now (g .entry)) (now (b .entry))) .written) ⌝ }
 {
-    let tested = test_colors(r, g, b, layout, width, height);
+    let tested = check_colors(r, g, b, layout, width, height);
     let Packed::Written(n) = tested else {
         return tested;
     };
@@ -57,10 +56,10 @@ pub(crate) fn encode_four(
     width: usize,
     height: usize,
 ) -> Packed
-    ensures answer { λ p. ⌜ toldPacked p ≡ packPicture rle width height (length (now (dst .entry))) (fourOf layout (now (r .entry)) (now (g .entry)) (now (b .entry)) (now (a .entry))) .answer ⌝ }
-    ensures slice { λ _. ⌜ now (dst .exit) ≡ over (now (dst .entry)) (packPicture rle width height (length (now (dst .entry))) (fourOf layout (now (r .entry)) (now (g .entry)) (now (b .entry)) (now (a .entry))) .written) ⌝ }
+    ensures answer { λ p. ⌜ packedToAnswer p ≡ packPicture rle width height (length (now (dst .entry))) (fourChannels layout (now (r .entry)) (now (g .entry)) (now (b .entry)) (now (a .entry))) .answer ⌝ }
+    ensures slice { λ _. ⌜ now (dst .exit) ≡ overwrite (now (dst .entry)) (packPicture rle width height (length (now (dst .entry))) (fourChannels layout (now (r .entry)) (now (g .entry)) (now (b .entry)) (now (a .entry))) .written) ⌝ }
 {
-    let tested = test_sources(r, g, b, a, layout, width, height);
+    let tested = check_sources(r, g, b, a, layout, width, height);
     let Packed::Written(n) = tested else {
         return tested;
     };

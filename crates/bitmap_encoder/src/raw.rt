@@ -1,12 +1,12 @@
-// The raw body: the planes' samples, and one zero byte.
+// The raw body (FORMAT 7.4).
 ghost use mathlib.Core.Path.{_≡_};
 ghost use Prim.Native.Nat.{_+_, _*_, _≤_, _<_};
 ghost use lib.ListN.{length, take};
-ghost use Rattle.rle_format.specs.Slice.{putAt};
+ghost use Rattle.rle_format.specs.Slice.{writeAt};
 ghost use Rattle.pixel_format.specs.declared.Channel.the-variants.{R, G, B};
 ghost use Rattle.pixel_format.specs.Channel.{samplesOf};
 ghost use Rattle.bitmap_format.specs.PackPicture.{rawBody};
-ghost use Rattle.bitmap_encoder.specs.Sources.{threeOf};
+ghost use Rattle.bitmap_encoder.specs.Sources.{threeChannels};
 use pixel_format::Channel;
 use pixel_format::Layout;
 use pixel_format::read_samples;
@@ -21,7 +21,7 @@ pub(crate) fn write_plane(
     n: usize,
 )
     requires { ⌜ (n ≤ length (samplesOf layout channel (now src))) × (at + n ≤ length (now dst)) ⌝ }
-    ensures { λ _. ⌜ now (dst .exit) ≡ putAt (now (dst .entry)) at (take n (samplesOf layout channel (now (src .entry)))) ⌝ }
+    ensures { λ _. ⌜ now (dst .exit) ≡ writeAt (now (dst .entry)) at (take n (samplesOf layout channel (now (src .entry)))) ⌝ }
 {
     read_samples(src, layout, channel, 0, &mut dst[at..at + n]);
 }
@@ -37,7 +37,7 @@ pub(crate) fn write_colors(
     n: usize,
 )
     requires { ⌜ (n ≤ length (samplesOf layout R (now r))) × (n ≤ length (samplesOf layout G (now g))) × (n ≤ length (samplesOf layout B (now b))) × (at + 3 * n < length (now dst)) ⌝ }
-    ensures { λ _. ⌜ now (dst .exit) ≡ putAt (now (dst .entry)) at (rawBody n (threeOf layout (now (r .entry)) (now (g .entry)) (now (b .entry)))) ⌝ }
+    ensures { λ _. ⌜ now (dst .exit) ≡ writeAt (now (dst .entry)) at (rawBody n (threeChannels layout (now (r .entry)) (now (g .entry)) (now (b .entry)))) ⌝ }
 {
     write_plane(r, layout, Channel::R, dst, at, n);
     write_plane(g, layout, Channel::G, dst, at + n, n);

@@ -1,21 +1,21 @@
-// The RLE body: "planes follow one another with no Pad".
+// The RLE body (FORMAT 7.3).
 ghost use mathlib.Core.Path.{_≡_};
 ghost use Prim.Native.Nat.{_*_, _≤_};
 ghost use lib.ListN.{length};
-ghost use Rattle.rle_format.specs.Answer.{toldPacked};
+ghost use Rattle.rle_format.specs.Answer.{packedToAnswer};
 ghost use Rattle.rle_format.specs.Pack.{planeSegments};
-ghost use Rattle.rle_format.proofs.Sides.{Within};
+ghost use Rattle.rle_format.proofs.Sides.{AllowedSides};
 ghost use Rattle.rle_format.specs.Written.{answerAt, sliceAt};
 ghost use Rattle.pixel_format.specs.declared.Channel.the-variants.{R, G, B};
 ghost use Rattle.pixel_format.specs.Channel.{samplesOf};
 ghost use Rattle.bitmap_format.specs.PackPicture.{pictureSegments};
-ghost use Rattle.bitmap_encoder.specs.Sources.{threeOf};
+ghost use Rattle.bitmap_encoder.specs.Sources.{threeChannels};
 use pixel_format::Channel;
 use pixel_format::Layout;
 use rle_encoder::compress_8bpp_channel;
 use rle_format::Packed;
 
-// Packs a plane into dst from index `at` on, and answers the index behind it.
+// Packs a plane into dst from index `at` on, and returns the index behind it.
 pub(crate) fn compress_next_plane(
     src: &[u8],
     layout: Layout,
@@ -25,8 +25,8 @@ pub(crate) fn compress_next_plane(
     width: usize,
     height: usize,
 ) -> Packed
-    requires { ⌜ Within width height × (width * height ≤ length (samplesOf layout channel (now src))) × (at ≤ length (now dst)) ⌝ }
-    ensures answer { λ p. ⌜ toldPacked p ≡ answerAt (planeSegments width height (samplesOf layout channel (now (src .entry)))) (now (dst .entry)) at ⌝ }
+    requires { ⌜ AllowedSides width height × (width * height ≤ length (samplesOf layout channel (now src))) × (at ≤ length (now dst)) ⌝ }
+    ensures answer { λ p. ⌜ packedToAnswer p ≡ answerAt (planeSegments width height (samplesOf layout channel (now (src .entry)))) (now (dst .entry)) at ⌝ }
     ensures slice { λ _. ⌜ now (dst .exit) ≡ sliceAt (planeSegments width height (samplesOf layout channel (now (src .entry)))) (now (dst .entry)) at ⌝ }
 {
     let answer = compress_8bpp_channel(src, layout, channel, &mut dst[at..], width, height);
@@ -36,7 +36,7 @@ pub(crate) fn compress_next_plane(
     Packed::Written(at + bytes)
 }
 
-// Packs R, G and B into dst from index `at` on, and answers the index behind them.
+// Packs R, G and B into dst from index `at` on, and returns the index behind them.
 pub(crate) fn compress_colors(
     r: &[u8],
     g: &[u8],
@@ -47,9 +47,9 @@ pub(crate) fn compress_colors(
     width: usize,
     height: usize,
 ) -> Packed
-    requires { ⌜ Within width height × (width * height ≤ length (samplesOf layout R (now r))) × (width * height ≤ length (samplesOf layout G (now g))) × (width * height ≤ length (samplesOf layout B (now b))) × (at ≤ length (now dst)) ⌝ }
-    ensures answer { λ p. ⌜ toldPacked p ≡ answerAt (pictureSegments width height (threeOf layout (now (r .entry)) (now (g .entry)) (now (b .entry)))) (now (dst .entry)) at ⌝ }
-    ensures slice { λ _. ⌜ now (dst .exit) ≡ sliceAt (pictureSegments width height (threeOf layout (now (r .entry)) (now (g .entry)) (now (b .entry)))) (now (dst .entry)) at ⌝ }
+    requires { ⌜ AllowedSides width height × (width * height ≤ length (samplesOf layout R (now r))) × (width * height ≤ length (samplesOf layout G (now g))) × (width * height ≤ length (samplesOf layout B (now b))) × (at ≤ length (now dst)) ⌝ }
+    ensures answer { λ p. ⌜ packedToAnswer p ≡ answerAt (pictureSegments width height (threeChannels layout (now (r .entry)) (now (g .entry)) (now (b .entry)))) (now (dst .entry)) at ⌝ }
+    ensures slice { λ _. ⌜ now (dst .exit) ≡ sliceAt (pictureSegments width height (threeChannels layout (now (r .entry)) (now (g .entry)) (now (b .entry)))) (now (dst .entry)) at ⌝ }
 {
     let red = compress_next_plane(r, layout, Channel::R, dst, at, width, height);
     let Packed::Written(behind_r) = red else {

@@ -1,29 +1,29 @@
--- The numbers tell the refusals apart, so that a contract `toldDecoded d ≡ a` or `toldEncoded e ≡ s` determines d or e.
+-- The numbers are different, so that a contract `decodedToAnswer d ≡ a` or `encodedToAnswer e ≡ s` determines d or e.
 use mathlib.Core.Path.{_≡_, sym, ap}
 use Prim.Native.Nat.{ℕ}
 use native.Mathlib.Omega.{arith}
 use Rattle.rle_format.specs.Answer.{number}
-use Rattle.rle_format.proofs.Answer.{not-counted, numbers-apart}
+use Rattle.rle_format.proofs.Answer.{refused-not-counted, number-injective}
 use Rattle.bitmap_format.specs.declared.Decoded.{Decoded}
 use Rattle.bitmap_format.specs.declared.Decoded.the-variants.{Written, Refused}
 use Rattle.bitmap_format.specs.declared.BitmapStreamHeader.{BitmapStreamHeader}
 use Rattle.bitmap_format.specs.declared.Encoded.{Encoded}
 use Rattle.bitmap_format.specs.declared.Encoded.the-variants as encoded
-use Rattle.bitmap_format.specs.Picture.{toldDecoded}
-use Rattle.bitmap_format.specs.PackPicture.{sent, unsent, toldEncoded}
+use Rattle.bitmap_format.specs.Picture.{decodedToAnswer}
+use Rattle.bitmap_format.specs.PackPicture.{encodedCount, encodedRefusal, encodedToAnswer}
 
--- a refusal is not sent
-not-sent : {r n : ℕ} {h : BitmapStreamHeader} {X : Type 0} → unsent r ≡ sent n h → X
-not-sent e = let z : _≡_ {A = ℕ} 0 1 = cc in absurd (omega arith)
+-- a refusal is no count
+refusal-not-count : {r n : ℕ} {h : BitmapStreamHeader} {X : Type 0} → encodedRefusal r ≡ encodedCount n h → X
+refusal-not-count e = let z : _≡_ {A = ℕ} 0 1 = cc in absurd (omega arith)
 
-pub decoded-apart : (d e : Decoded) → toldDecoded d ≡ toldDecoded e → d ≡ e
-decoded-apart (Written n) (Written m) p = let q : n ≡ m = cc in ap Written q
-decoded-apart (Written n) (Refused r) p = not-counted (sym p)
-decoded-apart (Refused r) (Written m) p = not-counted p
-decoded-apart (Refused r) (Refused s) p = let q : number r ≡ number s = cc in ap Refused (numbers-apart r s q)
+pub decodedToAnswer-injective : (d e : Decoded) → decodedToAnswer d ≡ decodedToAnswer e → d ≡ e
+decodedToAnswer-injective (Written n) (Written m) p = let q : n ≡ m = cc in ap Written q
+decodedToAnswer-injective (Written n) (Refused r) p = refused-not-counted (sym p)
+decodedToAnswer-injective (Refused r) (Written m) p = refused-not-counted p
+decodedToAnswer-injective (Refused r) (Refused s) p = let q : number r ≡ number s = cc in ap Refused (number-injective r s q)
 
-pub encoded-apart : (d e : Encoded) → toldEncoded d ≡ toldEncoded e → d ≡ e
-encoded-apart (encoded.Written n g) (encoded.Written m h) p = let q : n ≡ m = cc in let r : g ≡ h = cc in λ i. encoded.Written (q i) (r i)
-encoded-apart (encoded.Written n g) (encoded.Refused s) p = not-sent (sym p)
-encoded-apart (encoded.Refused r) (encoded.Written m h) p = not-sent p
-encoded-apart (encoded.Refused r) (encoded.Refused s) p = let q : number r ≡ number s = cc in ap encoded.Refused (numbers-apart r s q)
+pub encodedToAnswer-injective : (d e : Encoded) → encodedToAnswer d ≡ encodedToAnswer e → d ≡ e
+encodedToAnswer-injective (encoded.Written n g) (encoded.Written m h) p = let q : n ≡ m = cc in let r : g ≡ h = cc in λ i. encoded.Written (q i) (r i)
+encodedToAnswer-injective (encoded.Written n g) (encoded.Refused s) p = refusal-not-count (sym p)
+encodedToAnswer-injective (encoded.Refused r) (encoded.Written m h) p = refusal-not-count p
+encodedToAnswer-injective (encoded.Refused r) (encoded.Refused s) p = let q : number r ≡ number s = cc in ap encoded.Refused (number-injective r s q)

@@ -1,12 +1,12 @@
 pub mod Examples
 pub mod Answer
-pub mod Tests
+pub mod Checks
 pub mod Sizes
 pub mod Integers
 pub mod Colour
 pub mod Image
 pub mod UnpackPlanes
-pub mod Tested
+pub mod PictureChecks
 pub mod Picture
 pub mod PackPicture
 pub mod PackRoom

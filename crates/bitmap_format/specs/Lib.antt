@@ -1,4 +1,4 @@
-pub mod Tests
+pub mod Checks
 pub mod Colour
 pub mod Planes
 pub mod Sizes

@@ -1,87 +1,85 @@
--- A picture (document 01, "Unpacking a picture"): its refusals in their order, and what unpacking leaves in the work area and in the
--- image after each outcome.
+-- Unpacking a picture: the refusals in their order (FORMAT 8), and the work area and the image after every outcome.
 use Prim.Native.Nat.{ℕ}
 use mathlib.Core.Bool.{Bool, false, _||_}
 use mathlib.Core.List.{List, [], _∷_}
 use lib.ListN.{length, drop}
 use lib.Dec.{ltb, eqb}
 use Rattle.rle_format.specs.Choice.{choose}
-use Rattle.rle_format.specs.Sides.{withinSides}
+use Rattle.rle_format.specs.Sides.{checkSides}
 use Rattle.rle_format.specs.Answer.{Answer, counted, refused, number}
 use Rattle.bitmap_format.specs.declared.BitmapStreamHeader.{BitmapStreamHeader}
 use Rattle.bitmap_format.specs.declared.ColorPlaneDefinition.{ColorPlaneDefinition}
 use Rattle.bitmap_format.specs.declared.ColorPlaneDefinition.the-variants.{Argb, AYCoCg}
 use Rattle.bitmap_format.specs.declared.Decoded.{Decoded}
 use Rattle.bitmap_format.specs.declared.Decoded.the-variants.{Written, Refused}
-use Rattle.bitmap_format.specs.Tests.{Test, test, downwards}
+use Rattle.bitmap_format.specs.Checks.{Check, check, firstRefusal}
 use Rattle.bitmap_format.specs.Planes.{alphaPlanes, planesOf}
-use Rattle.bitmap_format.specs.Sizes.{samples, total, leastBody, workSize, rowSize, imageSize}
-use Rattle.bitmap_format.specs.Image.{imageRow, placed}
-use Rattle.bitmap_format.specs.UnpackPlanes.{Worked, unpackPlanes}
+use Rattle.bitmap_format.specs.Sizes.{sampleCount, sumOver, minBodySize, workSize, rowSize, imageSize}
+use Rattle.bitmap_format.specs.Image.{imageRow, writeRows}
+use Rattle.bitmap_format.specs.UnpackPlanes.{PlanesOutcome, unpackPlanes}
 
--- what a call leaves: the work area, the image, and the bytes written to the image or the number of a refusal
-pub record Picture : Type 0 where
+-- the work area and the image after the call, and its answer: the number of bytes written to the image, or a refusal
+pub record PictureOutcome : Type 0 where
   pub work : List ℕ
   pub image : List ℕ
   pub answer : Answer
 
--- a refusal, by which the image is untouched
-abbrev pub refusal : (work image : List ℕ) (number : ℕ) → Picture
-refusal work image r = record { work = work; image = image; answer = refused r }
+-- a refusal. The image is what it was
+abbrev pub refusedPicture : (work image : List ℕ) (number : ℕ) → PictureOutcome
+refusedPicture work image r = record { work = work; image = image; answer = refused r }
 
--- 3: "AYCoCg with loss level 0 or over 7"
-unfoldable pub lossWrong : ColorPlaneDefinition → Bool
-lossWrong Argb = false
-lossWrong (AYCoCg level subsampling) = eqb level 0 || ltb 7 level
+-- the condition of refusal 3
+unfoldable pub isLossLevelInvalid : ColorPlaneDefinition → Bool
+isLossLevelInvalid Argb = false
+isLossLevelInvalid (AYCoCg level subsampling) = eqb level 0 || ltb 7 level
 
--- the table's lines for a picture, below those of every entry. The last three numbers are the lengths of the slices
-abbrev pub pictureTests : BitmapStreamHeader → (width height body work image : ℕ) → List Test
-pictureTests header width height body work image =
-    test 3 (lossWrong (header .«color_plane_definition»))
-    ∷ test 4 (ltb body (leastBody header width height))
-    ∷ test 5 (ltb work (workSize header width height))
-    ∷ test 6 (ltb image (imageSize width height))
+-- the checks of a picture, after those of the sides. The last three arguments are the lengths of the slices
+abbrev pub pictureChecks : BitmapStreamHeader → (width height body work image : ℕ) → List Check
+pictureChecks header width height body work image =
+    check 3 (isLossLevelInvalid (header .«color_plane_definition»))
+    ∷ check 4 (ltb body (minBodySize header width height))
+    ∷ check 5 (ltb work (workSize header width height))
+    ∷ check 6 (ltb image (imageSize width height))
     ∷ []
 
--- what the tests answer: the number of the first that refuses, or the bytes of the image, which is the picture's answer if its planes are
--- right. The last three numbers are the lengths of the slices
-unfoldable pub tested : BitmapStreamHeader → (width height body work image : ℕ) → Answer
-tested header width height body work image =
-    withinSides refused width height (downwards (pictureTests header width height body work image) (counted (imageSize width height)))
+-- the answer of all checks: the first refusal, or the size of the image, which is the picture's answer unless one of its planes is refused
+unfoldable pub checkPicture : BitmapStreamHeader → (width height body work image : ℕ) → Answer
+checkPicture header width height body work image =
+    checkSides refused width height (firstRefusal (pictureChecks header width height body work image) (counted (imageSize width height)))
 
--- the image is written from the colour planes at the start of `planes`; "the answer is their number"
-unfoldable pub painted : BitmapStreamHeader → (width height : ℕ) (planes work image : List ℕ) → Picture
-painted header width height planes work image = record {
+-- the image written from the colour planes at the start of `planes`
+unfoldable pub writeImage : BitmapStreamHeader → (width height : ℕ) (planes work image : List ℕ) → PictureOutcome
+writeImage header width height planes work image = record {
   work = work;
-  image = placed (rowSize width) (imageRow (header .«color_plane_definition») (header .«use_alpha») width height planes) height image;
+  image = writeRows (rowSize width) (imageRow (header .«color_plane_definition») (header .«use_alpha») width height planes) height image;
   answer = counted (imageSize width height);
 }
 
--- "A raw picture does not touch the work area": its colour planes stand in the body, behind alpha
-unfoldable pub rawPicture : BitmapStreamHeader → (width height : ℕ) (body work image : List ℕ) → Picture
-rawPicture header width height body work image =
-    painted header width height (drop (total samples (alphaPlanes (header .«use_alpha») width height)) body) work image
+-- a raw picture has its colour planes in the body, behind alpha, and does not use the work area
+unfoldable pub unpackRaw : BitmapStreamHeader → (width height : ℕ) (body work image : List ℕ) → PictureOutcome
+unpackRaw header width height body work image =
+    writeImage header width height (drop (sumOver sampleCount (alphaPlanes (header .«use_alpha») width height)) body) work image
 
--- the colour planes of an RLE picture stand in the work area, unless one of them was refused
-unfoldable pub fromWork : BitmapStreamHeader → (width height : ℕ) (work image : List ℕ) → Answer → Picture
-fromWork header width height work image (counted n) = painted header width height work work image
-fromWork header width height work image (refused r) = refusal work image r
+-- an RLE picture has its colour planes in the work area, unless one was refused
+unfoldable pub imageFromWork : BitmapStreamHeader → (width height : ℕ) (work image : List ℕ) → Answer → PictureOutcome
+imageFromWork header width height work image (counted n) = writeImage header width height work work image
+imageFromWork header width height work image (refused r) = refusedPicture work image r
 
-unfoldable pub rlePicture : BitmapStreamHeader → (width height : ℕ) (body work image : List ℕ) → Picture
-rlePicture header width height body work image =
-    let u : Worked = unpackPlanes (planesOf header width height) work body in
-    fromWork header width height (u .work) image (u .answer)
+unfoldable pub unpackRle : BitmapStreamHeader → (width height : ℕ) (body work image : List ℕ) → PictureOutcome
+unpackRle header width height body work image =
+    let u : PlanesOutcome = unpackPlanes (planesOf header width height) work body in
+    imageFromWork header width height (u .work) image (u .answer)
 
--- "Refusals 1 to 6 .. change no slice"
-unfoldable pub unpackPicture : BitmapStreamHeader → (width height : ℕ) (body work image : List ℕ) → Picture
+-- unpacking a picture: refusals 1 to 6, which change nothing, then 7, 8, 9 (FORMAT 8.2, 8.3)
+unfoldable pub unpackPicture : BitmapStreamHeader → (width height : ℕ) (body work image : List ℕ) → PictureOutcome
 unpackPicture header width height body work image =
-    elim (tested header width height (length body) (length work) (length image)) [
-      | refused r ↦ refusal work image r
-      | counted n ↦ choose (header .«enable_rle_compression») (rlePicture header width height body work image)
-          (rawPicture header width height body work image)
+    elim (checkPicture header width height (length body) (length work) (length image)) [
+      | refused r ↦ refusedPicture work image r
+      | counted n ↦ choose (header .«enable_rle_compression») (unpackRle header width height body work image)
+          (unpackRaw header width height body work image)
     ]
 
--- the answer of a picture that is unpacked
-abbrev pub toldDecoded : Decoded → Answer
-toldDecoded (Written n) = counted n
-toldDecoded (Refused r) = refused (number r)
+-- the answer of unpacking a picture
+abbrev pub decodedToAnswer : Decoded → Answer
+decodedToAnswer (Written n) = counted n
+decodedToAnswer (Refused r) = refused (number r)

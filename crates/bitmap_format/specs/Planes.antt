@@ -1,5 +1,4 @@
--- The planes of a picture (document 01, "Unpacking a picture"): one list, in the order of the body, each with its sides and with its
--- offset in the work area.
+-- The planes of a picture in the order of the body, each with its sides and its offset in the work area (FORMAT 2).
 use Prim.Native.Nat.{ℕ, _+_, _*_, _/_}
 use mathlib.Core.Bool.{Bool, false}
 use mathlib.Core.List.{List, [], _∷_, _++_}
@@ -16,16 +15,16 @@ pub record PlaneAt : Type 0 where
 abbrev pub planeAt : (width height offset : ℕ) → PlaneAt
 planeAt w h o = record { width = w; height = h; offset = o }
 
--- "ARGB is never subsampled"
+-- whether the chroma planes are subsampled; ARGB never is
 abbrev pub subsampled : ColorPlaneDefinition → Bool
 subsampled Argb = false
 subsampled (AYCoCg level subsampling) = subsampling
 
--- "A chroma plane has the same, or with subsampling (width/2 rounded up) × (height/2 rounded up)"
+-- a side of a chroma plane (FORMAT 2.2)
 unfoldable pub chromaSide : (subsampling : Bool) (side : ℕ) → ℕ
 chromaSide subsampling side = choose subsampling ((side + 1) / 2) side
 
--- R or Y: "0", G or Co: "full", B or Cg: "full + chroma"
+-- R or Y, then G or Co, then B or Cg, one behind the other in the work area (FORMAT 2.5)
 unfoldable pub firstPlane : (width height : ℕ) → PlaneAt
 firstPlane width height = planeAt width height 0
 
@@ -39,7 +38,7 @@ thirdPlane s width height =
 unfoldable pub colourPlanes : (subsampling : Bool) (width height : ℕ) → List PlaneAt
 colourPlanes s width height = firstPlane width height ∷ secondPlane s width height ∷ thirdPlane s width height ∷ []
 
--- "alpha, if flagged, is unpacked first, to the start of the work area"
+-- alpha, if flagged. It too has offset 0, where the first colour plane overwrites it (FORMAT 2.5)
 unfoldable pub alphaPlanes : (alpha : Bool) (width height : ℕ) → List PlaneAt
 alphaPlanes alpha width height = choose alpha (planeAt width height 0 ∷ []) []
 

@@ -1,4 +1,4 @@
--- The sizes of a picture (document 01, "Unpacking a picture"): the least body, the work area and the image.
+-- The minimum sizes of body, work area and image (FORMAT 2.3 to 2.6).
 use Prim.Native.Nat.{ℕ, _+_, _*_, _/_}
 use mathlib.Core.Bool.{Bool, true, false}
 use mathlib.Core.List.{List, [], _∷_}
@@ -6,29 +6,29 @@ use Rattle.rle_format.specs.Choice.{choose}
 use Rattle.bitmap_format.specs.declared.BitmapStreamHeader.{BitmapStreamHeader}
 use Rattle.bitmap_format.specs.Planes.{PlaneAt, subsampled, colourPlanes, planesOf}
 
--- "A full plane has width × height samples", and so has a chroma plane of its own sides
-abbrev pub samples : PlaneAt → ℕ
-samples p = p .width * p .height
+-- the number of samples of a plane
+abbrev pub sampleCount : PlaneAt → ℕ
+sampleCount p = p .width * p .height
 
--- "The least body of an RLE plane is height × (width/47 rounded up)"; that of a raw one is its samples
-abbrev pub leastOf : (rle : Bool) → PlaneAt → ℕ
-leastOf true p = p .height * ((p .width + 46) / 47)
-leastOf false p = samples p
+-- the minimum size of a plane in the body, RLE (FORMAT 2.4) or raw (FORMAT 2.3)
+abbrev pub minPlaneSize : (rle : Bool) → PlaneAt → ℕ
+minPlaneSize true p = p .height * ((p .width + 46) / 47)
+minPlaneSize false p = sampleCount p
 
-unfoldable pub total : (PlaneAt → ℕ) → List PlaneAt → ℕ
-total size [] = 0
-total size (p ∷ planes) = size p + total size planes
+unfoldable pub sumOver : (PlaneAt → ℕ) → List PlaneAt → ℕ
+sumOver size [] = 0
+sumOver size (p ∷ planes) = size p + sumOver size planes
 
--- "An RLE body must reach the sum over its planes"; "A raw body must reach the alpha plane (if flagged) and the three colour planes"
-unfoldable pub leastBody : BitmapStreamHeader → (width height : ℕ) → ℕ
-leastBody header width height = total (leastOf (header .«enable_rle_compression»)) (planesOf header width height)
+-- the minimum size of the body
+unfoldable pub minBodySize : BitmapStreamHeader → (width height : ℕ) → ℕ
+minBodySize header width height = sumOver (minPlaneSize (header .«enable_rle_compression»)) (planesOf header width height)
 
--- "RLE only": "the three colour planes". A raw picture needs no work area
+-- the minimum size of the work area: the three colour planes of an RLE picture; 0 for a raw one
 unfoldable pub workSize : BitmapStreamHeader → (width height : ℕ) → ℕ
 workSize header width height =
-    choose (header .«enable_rle_compression») (total samples (colourPlanes (subsampled (header .«color_plane_definition»)) width height)) 0
+    choose (header .«enable_rle_compression») (sumOver sampleCount (colourPlanes (subsampled (header .«color_plane_definition»)) width height)) 0
 
--- "3 bytes a pixel"
+-- the bytes of a row of the image, and of the image
 unfoldable pub rowSize : (width : ℕ) → ℕ
 rowSize width = 3 * width
 

@@ -1,18 +1,18 @@
-// A picture of RDP 6.0 (MS-RDPEGDI 2.2.2.5.1): its header record, and the answers of unpacking and of packing it.
-// What is right is said in specs/; the contracts of the decoder and the encoder cite it.
+// Pictures (FORMAT 1, 2; MS-RDPEGDI 2.2.2.5.1): the header record, the types of the answers, and the sizes. The definitions that the contracts of
+// decoder and encoder cite are in specs/.
 mod plane_sizes;
 
 ghost use mathlib.Core.Path.{_≡_};
 ghost use Prim.Native.Nat.{ℕ};
-ghost use Rattle.rle_format.specs.Sides.{withinSides};
+ghost use Rattle.rle_format.specs.Sides.{checkSides};
 ghost use Rattle.bitmap_format.specs.Planes.{subsampled, chromaSide};
-ghost use Rattle.bitmap_format.specs.Sizes.{leastBody, workSize, imageSize};
+ghost use Rattle.bitmap_format.specs.Sizes.{minBodySize, workSize, imageSize};
 use plane_sizes::is_within;
 use plane_sizes::min_color_planes_size;
 use plane_sizes::min_plane_size;
 use rle_format::Refusal;
 
-// Document 01, "What is handed over": "The definition is ARGB, or AYCoCg with a loss level and a subsampling flag."
+// The plane definition (FORMAT 1.3). The names are IronRDP's.
 pub enum ColorPlaneDefinition {
     Argb,
     AYCoCg {
@@ -21,7 +21,7 @@ pub enum ColorPlaneDefinition {
     },
 }
 
-// "The record holds the RLE flag, the alpha flag and the plane definition."
+// The header record (FORMAT 1.3).
 pub struct BitmapStreamHeader {
     pub enable_rle_compression: bool,
     pub use_alpha: bool,
@@ -35,13 +35,13 @@ pub struct Rgb {
     pub b: u8,
 }
 
-// The answer of a picture that is unpacked: the bytes written to the image, or the refusal.
+// The answer of unpacking a picture: the number of bytes written to the image, or the refusal.
 pub enum Decoded {
     Written(usize),
     Refused(Refusal),
 }
 
-// The answer of a picture that is packed: the bytes written and the header record to send, or the refusal.
+// The answer of packing a picture: the number of bytes written and the header record to send, or the refusal.
 pub enum Encoded {
     Written {
         bytes: usize,
@@ -63,7 +63,7 @@ pub fn has_subsampled_chroma(definition: ColorPlaneDefinition) -> bool
     }
 }
 
-// A side of a chroma plane, by that of the picture. The halves are rounded up in a form that no side overflows.
+// A side of a chroma plane, given that of the picture (FORMAT 2.2). This way of rounding up does not overflow.
 pub fn chroma_side(subsampling: bool, side: usize) -> usize
     ensures { λ r. ⌜ r ≡ chromaSide subsampling side ⌝ }
 {
@@ -73,9 +73,9 @@ pub fn chroma_side(subsampling: bool, side: usize) -> usize
     side
 }
 
-// The bytes that a body must have, or 0 for sides that no picture has.
+// The minimum size of a body, or 0 if the sides are refused.
 pub fn min_body_size(header: BitmapStreamHeader, width: usize, height: usize) -> usize
-    ensures { λ r. ⌜ r ≡ withinSides (λ (_ : ℕ). 0) width height (leastBody header width height) ⌝ }
+    ensures { λ r. ⌜ r ≡ checkSides (λ (_ : ℕ). 0) width height (minBodySize header width height) ⌝ }
 {
     if !is_within(width, height) {
         return 0;
@@ -90,9 +90,9 @@ pub fn min_body_size(header: BitmapStreamHeader, width: usize, height: usize) ->
     color
 }
 
-// The bytes that the work area must have, or 0 for sides that no picture has. A raw picture needs none.
+// The minimum size of the work area, or 0 if the sides are refused. For a raw picture it is 0.
 pub fn work_size(header: BitmapStreamHeader, width: usize, height: usize) -> usize
-    ensures { λ r. ⌜ r ≡ withinSides (λ (_ : ℕ). 0) width height (workSize header width height) ⌝ }
+    ensures { λ r. ⌜ r ≡ checkSides (λ (_ : ℕ). 0) width height (workSize header width height) ⌝ }
 {
     if !is_within(width, height) {
         return 0;
@@ -105,9 +105,9 @@ pub fn work_size(header: BitmapStreamHeader, width: usize, height: usize) -> usi
     0
 }
 
-// The bytes that the image must have, or 0 for sides that no picture has.
+// The minimum size of the image, or 0 if the sides are refused.
 pub fn image_size(width: usize, height: usize) -> usize
-    ensures { λ r. ⌜ r ≡ withinSides (λ (_ : ℕ). 0) width height (imageSize width height) ⌝ }
+    ensures { λ r. ⌜ r ≡ checkSides (λ (_ : ℕ). 0) width height (imageSize width height) ⌝ }
 {
     if !is_within(width, height) {
         return 0;

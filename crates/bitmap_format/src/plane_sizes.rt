@@ -1,19 +1,19 @@
-// The sizes of planes, by their sides.
+// The minimum sizes of planes, given their sides (FORMAT 2.3, 2.4).
 ghost use mathlib.Core.Path.{_≡_};
 ghost use mathlib.Core.Bool.{true, false};
 ghost use Prim.Native.Nat.{ℕ, _≤_};
-ghost use Rattle.rle_format.specs.Sides.{withinSides};
+ghost use Rattle.rle_format.specs.Sides.{checkSides};
 ghost use Rattle.bitmap_format.specs.Planes.{planeAt, colourPlanes};
-ghost use Rattle.bitmap_format.specs.Sizes.{leastOf, total};
+ghost use Rattle.bitmap_format.specs.Sizes.{minPlaneSize, sumOver};
 use crate::chroma_side;
 use rle_format::MAX_SIDE;
 
-// The longest segment of an RLE plane, in samples.
+// The most values that a segment can have.
 const LONGEST: usize = 47;
 
-// Whether a picture may have these sides.
+// Whether the sides pass refusals 1 and 2.
 pub(crate) fn is_within(width: usize, height: usize) -> bool
-    ensures { λ r. ⌜ r ≡ withinSides (λ (_ : ℕ). false) width height true ⌝ }
+    ensures { λ r. ⌜ r ≡ checkSides (λ (_ : ℕ). false) width height true ⌝ }
 {
     if width == 0 {
         return false;
@@ -30,18 +30,18 @@ pub(crate) fn is_within(width: usize, height: usize) -> bool
     true
 }
 
-// The least bytes of an RLE plane: in each row a control byte for every segment of the longest.
+// The minimum size of an RLE plane: each row has at least one control byte for every 47 values.
 fn min_compressed_plane_size(width: usize, height: usize) -> usize
     requires { ⌜ (width ≤ 8192) × (height ≤ 8192) ⌝ }
-    ensures { λ r. ⌜ r ≡ leastOf true (planeAt width height 0) ⌝ }
+    ensures { λ r. ⌜ r ≡ minPlaneSize true (planeAt width height 0) ⌝ }
 {
     height * ((width + (LONGEST - 1)) / LONGEST)
 }
 
-// The least bytes of a plane; those of a raw one are its samples. That they are few is said for the callers' sums.
+// The minimum size of a plane, RLE or raw. The second clause bounds it, so that callers can add without overflow.
 pub(crate) fn min_plane_size(rle: bool, width: usize, height: usize) -> usize
     requires { ⌜ (width ≤ 8192) × (height ≤ 8192) ⌝ }
-    ensures least { λ r. ⌜ r ≡ leastOf rle (planeAt width height 0) ⌝ }
+    ensures least { λ r. ⌜ r ≡ minPlaneSize rle (planeAt width height 0) ⌝ }
     ensures most { λ r. ⌜ r ≤ 67108864 ⌝ }
 {
     if rle {
@@ -50,7 +50,7 @@ pub(crate) fn min_plane_size(rle: bool, width: usize, height: usize) -> usize
     width * height
 }
 
-// The least bytes of the colour planes: one full, two of chroma.
+// The minimum size of the colour planes: one full, two chroma.
 pub(crate) fn min_color_planes_size(
     rle: bool,
     subsampling: bool,
@@ -58,7 +58,7 @@ pub(crate) fn min_color_planes_size(
     height: usize,
 ) -> usize
     requires { ⌜ (width ≤ 8192) × (height ≤ 8192) ⌝ }
-    ensures least { λ r. ⌜ r ≡ total (leastOf rle) (colourPlanes subsampling width height) ⌝ }
+    ensures least { λ r. ⌜ r ≡ sumOver (minPlaneSize rle) (colourPlanes subsampling width height) ⌝ }
     ensures most { λ r. ⌜ r ≤ 201326592 ⌝ }
 {
     let chroma_width = chroma_side(subsampling, width);

@@ -1,11 +1,11 @@
-// The tests before a picture is unpacked, in the order of document 01's table ("Where each refusal is checked"). They look at numbers
-// alone, so they have a crate of their own: nothing that reads or writes a slice is proved again when a test changes.
+// The checks before a picture is unpacked: refusals 1 to 6 (FORMAT 8). They depend on numbers alone, so they are a crate of their own: nothing that
+// reads or writes a slice is proved again when a check changes.
 ghost use mathlib.Core.Path.{_≡_};
 ghost use Prim.Native.Nat.{_≤_};
 ghost use Rattle.rle_format.specs.Answer.{counted};
-ghost use Rattle.bitmap_format.specs.Tests.{downwards};
+ghost use Rattle.bitmap_format.specs.Checks.{firstRefusal};
 ghost use Rattle.bitmap_format.specs.Sizes.{imageSize};
-ghost use Rattle.bitmap_format.specs.Picture.{lossWrong, pictureTests, tested, toldDecoded};
+ghost use Rattle.bitmap_format.specs.Picture.{isLossLevelInvalid, pictureChecks, checkPicture, decodedToAnswer};
 use bitmap_format::BitmapStreamHeader;
 use bitmap_format::ColorPlaneDefinition;
 use bitmap_format::Decoded;
@@ -15,9 +15,9 @@ use bitmap_format::work_size;
 use rle_format::MAX_SIDE;
 use rle_format::Refusal;
 
-// Whether a loss level is out of its range.
-fn is_loss_wrong(definition: ColorPlaneDefinition) -> bool
-    ensures { λ r. ⌜ r ≡ lossWrong definition ⌝ }
+// Whether the definition is AYCoCg with a loss level outside 1 to 7.
+fn is_loss_level_invalid(definition: ColorPlaneDefinition) -> bool
+    ensures { λ r. ⌜ r ≡ isLossLevelInvalid definition ⌝ }
 {
     match definition {
         ColorPlaneDefinition::Argb => false,
@@ -28,8 +28,8 @@ fn is_loss_wrong(definition: ColorPlaneDefinition) -> bool
     }
 }
 
-// The first of refusals 1 to 6 of a picture with a body, a work area and an image of these lengths; or, if none is due, the answer that
-// it gets if its planes are right, the bytes of its image.
+// The first of refusals 1 to 6, given the lengths of body, work area and image; or else the size of the image, which is the answer of the picture
+// unless one of its planes is refused.
 pub fn first_refusal(
     header: BitmapStreamHeader,
     width: usize,
@@ -38,7 +38,7 @@ pub fn first_refusal(
     work: usize,
     image: usize,
 ) -> Decoded
-    ensures { λ r. ⌜ toldDecoded r ≡ tested header width height body work image ⌝ }
+    ensures { λ r. ⌜ decodedToAnswer r ≡ checkPicture header width height body work image ⌝ }
 {
     if width == 0 {
         return Decoded::Refused(Refusal::ZeroSize);
@@ -52,11 +52,11 @@ pub fn first_refusal(
     if MAX_SIDE < height {
         return Decoded::Refused(Refusal::TooLarge);
     }
-    test_slices(header, width, height, body, work, image)
+    check_slices(header, width, height, body, work, image)
 }
 
-// The same of a picture whose sides are right.
-fn test_slices(
+// The same for sides that passed refusals 1 and 2.
+fn check_slices(
     header: BitmapStreamHeader,
     width: usize,
     height: usize,
@@ -65,10 +65,10 @@ fn test_slices(
     image: usize,
 ) -> Decoded
     requires { ⌜ (width ≡ 0 → ⊥) × (height ≡ 0 → ⊥) × (width ≤ 8192) × (height ≤ 8192) ⌝ }
-    ensures { λ r. ⌜ toldDecoded r ≡ downwards (pictureTests header width height body work image) (counted (imageSize width height)) ⌝ }
+    ensures { λ r. ⌜ decodedToAnswer r ≡ firstRefusal (pictureChecks header width height body work image) (counted (imageSize width height)) ⌝ }
 {
     let definition = header.color_plane_definition;
-    let loss_is_wrong = is_loss_wrong(definition);
+    let loss_is_wrong = is_loss_level_invalid(definition);
     let least_body = min_body_size(header, width, height);
     let least_work = work_size(header, width, height);
     let least_image = image_size(width, height);

@@ -6,53 +6,53 @@ use Prim.Native.Nat.{ℕ, zero, suc, _+_, _*_, _-_, _/_, _≤_, _<_, min}
 use native.Mathlib.Omega.{arith}
 use lib.ListN.{length, take, drop, getD, length-append, length-drop, drop-of-length-le, List·getD-append}
 use lib.Seq.{take-all, take-nil, getD-at}
-use Rattle.rle_format.specs.Slice.{over}
+use Rattle.rle_format.specs.Slice.{overwrite}
 use Rattle.rle_format.proofs.Cases.{le-or-gt}
-use Rattle.rle_format.proofs.Slice.{over-none}
+use Rattle.rle_format.proofs.Slice.{overwrite-nil}
 use Rattle.pixel_format.specs.declared.Channel.{Channel}
 use Rattle.pixel_format.specs.declared.Layout.{Layout}
 use Rattle.pixel_format.specs.declared.Layout.the-variants.{Planar, BgrA}
-use Rattle.pixel_format.specs.Channel.{Places, bgrA, placeOf, spaced, channel, samplesOf}
+use Rattle.pixel_format.specs.Channel.{ChannelOffsets, bgrA, offsetOf, strided, channel, samplesOf}
 
-pub length-spaced : (stride place n : ℕ) (d : List ℕ) → length (spaced stride place n d) ≡ n
-unfolding spaced
-length-spaced stride place zero d = refl
-length-spaced stride place (suc n) d =
-    omega (arith, length-append (spaced stride place n d) (getD d (n * stride + place) 0 ∷ []), length-spaced stride place n d)
+pub length-strided : (stride place n : ℕ) (d : List ℕ) → length (strided stride place n d) ≡ n
+unfolding strided
+length-strided stride place zero d = refl
+length-strided stride place (suc n) d =
+    omega (arith, length-append (strided stride place n d) (getD d (n * stride + place) 0 ∷ []), length-strided stride place n d)
 
--- so many as there are whole pixels
-pub length-channel : (p : Places) (c : Channel) (pixels : List ℕ) → length (channel p c pixels) ≡ length pixels / p .stride
+-- as many as there are complete pixels
+pub length-channel : (p : ChannelOffsets) (c : Channel) (pixels : List ℕ) → length (channel p c pixels) ≡ length pixels / p .stride
 unfolding channel
-length-channel p c pixels = length-spaced (p .stride) (placeOf p c) (length pixels / p .stride) pixels
+length-channel p c pixels = length-strided (p .stride) (offsetOf p c) (length pixels / p .stride) pixels
 
 -- sample i stands in pixel i
-pub getD-spaced : (stride place n : ℕ) (d : List ℕ) (i : ℕ) → i < n → getD (spaced stride place n d) i 0 ≡ getD d (i * stride + place) 0
-unfolding spaced
-getD-spaced stride place zero d i h = absurd (omega arith)
-getD-spaced stride place (suc n) d i h =
-    let len = length-spaced stride place n d in
+pub getD-strided : (stride place n : ℕ) (d : List ℕ) (i : ℕ) → i < n → getD (strided stride place n d) i 0 ≡ getD d (i * stride + place) 0
+unfolding strided
+getD-strided stride place zero d i h = absurd (omega arith)
+getD-strided stride place (suc n) d i h =
+    let len = length-strided stride place n d in
     ⊎-elim
-    (λ (l : i < n). List·getD-append (spaced stride place n d) (getD d (n * stride + place) 0 ∷ []) 0 i (omega arith) ∙ getD-spaced stride place n d i l)
+    (λ (l : i < n). List·getD-append (strided stride place n d) (getD d (n * stride + place) 0 ∷ []) 0 i (omega arith) ∙ getD-strided stride place n d i l)
     (λ (l : n < suc i).
     let e : i ≡ n = omega arith in
-    getD-at (spaced stride place n d) (getD d (n * stride + place) 0) [] 0 i (len ∙ sym e) ∙ ap (λ (k : ℕ). getD d (k * stride + place) 0) (sym e))
+    getD-at (strided stride place n d) (getD d (n * stride + place) 0) [] 0 i (len ∙ sym e) ∙ ap (λ (k : ℕ). getD d (k * stride + place) 0) (sym e))
     (le-or-gt (suc i) n)
 
 -- the byte at sample i's place of a slice of pixels
-pub sample-at : (stride place n : ℕ) (d : List ℕ) (i k : ℕ) → i < n → k ≡ i * stride + place → getD d k 0 ≡ getD (spaced stride place n d) i 0
-sample-at stride place n d i k h e = ap (λ (m : ℕ). getD d m 0) e ∙ sym (getD-spaced stride place n d i h)
+pub strided-at : (stride place n : ℕ) (d : List ℕ) (i k : ℕ) → i < n → k ≡ i * stride + place → getD d k 0 ≡ getD (strided stride place n d) i 0
+strided-at stride place n d i k h e = ap (λ (m : ℕ). getD d m 0) e ∙ sym (getD-strided stride place n d i h)
 
 -- ---- a read that asks for more than there are
 
 -- none are left
-pub none-left : (d s : List ℕ) (from : ℕ) → length s ≤ from → d ≡ over d (take (length d) (drop from s))
-none-left d s from h =
-    sym (over-none d)
-    ∙ ap (over d) (sym (ap (take (length d)) (drop-of-length-le s {i = from} h) ∙ take-nil (length d)))
+pub read-past-end : (d s : List ℕ) (from : ℕ) → length s ≤ from → d ≡ overwrite d (take (length d) (drop from s))
+read-past-end d s from h =
+    sym (overwrite-nil d)
+    ∙ ap (overwrite d) (sym (ap (take (length d)) (drop-of-length-le s {i = from} h) ∙ take-nil (length d)))
 
 -- as many as are left, or as were asked for
-pub some-left : (s : List ℕ) (from n k : ℕ) → n ≡ min (length s - from) k → take n (drop from s) ≡ take k (drop from s)
-some-left s from n k e =
+pub read-limited : (s : List ℕ) (from n k : ℕ) → n ≡ min (length s - from) k → take n (drop from s) ≡ take k (drop from s)
+read-limited s from n k e =
     let left = length-drop from s in
     ⊎-elim
     (λ (h : length s - from ≤ k).
@@ -63,31 +63,31 @@ some-left s from n k e =
 -- ---- a slice of either kind
 
 module _ (l : Layout) (c : Channel) (s : List ℕ) where
-  pub planar-are : l ≡ Planar → s ≡ samplesOf l c s
-  planar-are e = ap (λ (k : Layout). samplesOf k c s) (sym e)
+  pub samplesOf-planar : l ≡ Planar → s ≡ samplesOf l c s
+  samplesOf-planar e = ap (λ (k : Layout). samplesOf k c s) (sym e)
 
-  pub bgra-are : l ≡ BgrA → channel bgrA c s ≡ samplesOf l c s
-  bgra-are e = ap (λ (k : Layout). samplesOf k c s) (sym e)
+  pub samplesOf-bgra : l ≡ BgrA → channel bgrA c s ≡ samplesOf l c s
+  samplesOf-bgra e = ap (λ (k : Layout). samplesOf k c s) (sym e)
 
   pub planar-count : l ≡ Planar → length s ≡ length (samplesOf l c s)
-  planar-count e = ap length (planar-are e)
+  planar-count e = ap length (samplesOf-planar e)
 
   pub bgra-count : l ≡ BgrA → length s / 4 ≡ length (samplesOf l c s)
-  bgra-count e = sym (length-channel bgrA c s) ∙ ap length (bgra-are e)
+  bgra-count e = sym (length-channel bgrA c s) ∙ ap length (samplesOf-bgra e)
 
   -- what was copied of them is what was asked for
   module _ (d now : List ℕ) (from n : ℕ) (all : n ≡ min (length (samplesOf l c s) - from) (length d)) where
-    -- a slice of samples is lent as `&s[from..from + n]`
-    pub planar-read : l ≡ Planar → now ≡ over d (take (from + n - from) (drop from s)) → now ≡ over d (take (length d) (drop from (samplesOf l c s)))
+    -- a slice of samples is passed as `&s[from..from + n]`
+    pub planar-read : l ≡ Planar → now ≡ overwrite d (take (from + n - from) (drop from s)) → now ≡ overwrite d (take (length d) (drop from (samplesOf l c s)))
     planar-read e is =
         let part : from + n - from ≡ n = omega arith in
-        is ∙ (λ i. over d (take (part i) (drop from (planar-are e i)))) ∙ ap (over d) (some-left (samplesOf l c s) from n (length d) all)
+        is ∙ (λ i. overwrite d (take (part i) (drop from (samplesOf-planar e i)))) ∙ ap (overwrite d) (read-limited (samplesOf l c s) from n (length d) all)
 
-    pub bgra-read : (place : ℕ) → place ≡ placeOf bgrA c → l ≡ BgrA → now ≡ over d (take n (drop from (spaced 4 place (length s / 4) s)))
-        → now ≡ over d (take (length d) (drop from (samplesOf l c s)))
+    pub bgra-read : (place : ℕ) → place ≡ offsetOf bgrA c → l ≡ BgrA → now ≡ overwrite d (take n (drop from (strided 4 place (length s / 4) s)))
+        → now ≡ overwrite d (take (length d) (drop from (samplesOf l c s)))
     unfolding channel
     bgra-read place at e is =
         is
-        ∙ ap (λ (p : ℕ). over d (take n (drop from (spaced 4 p (length s / 4) s)))) at
-        ∙ ap (λ (t : List ℕ). over d (take n (drop from t))) (bgra-are e)
-        ∙ ap (over d) (some-left (samplesOf l c s) from n (length d) all)
+        ∙ ap (λ (p : ℕ). overwrite d (take n (drop from (strided 4 p (length s / 4) s)))) at
+        ∙ ap (λ (t : List ℕ). overwrite d (take n (drop from t))) (samplesOf-bgra e)
+        ∙ ap (overwrite d) (read-limited (samplesOf l c s) from n (length d) all)

@@ -1,15 +1,15 @@
-// What reading a channel goes by: its place in a pixel, how many samples, and the loop over pixels.
+// Reading a channel out of pixels.
 ghost use mathlib.Core.Path.{_≡_};
 ghost use Prim.Native.Nat.{_+_, _≤_, _<_, _/_, min};
 ghost use lib.ListN.{length, take, drop};
-ghost use Rattle.rle_format.specs.Slice.{over, putAt};
-ghost use Rattle.pixel_format.specs.Channel.{bgrA, placeOf, spaced};
+ghost use Rattle.rle_format.specs.Slice.{overwrite, writeAt};
+ghost use Rattle.pixel_format.specs.Channel.{bgrA, offsetOf, strided};
 use crate::BgrAChannels;
 use crate::Channel;
 
-// The place of a channel in a pixel. That it lies in the pixel is said for the callers' indices.
-pub(crate) fn place_of(channel: Channel) -> usize
-    ensures place { λ r. ⌜ r ≡ placeOf bgrA channel ⌝ }
+// The offset of a channel in a pixel. Callers need the second clause for their indices.
+pub(crate) fn offset_of(channel: Channel) -> usize
+    ensures place { λ r. ⌜ r ≡ offsetOf bgrA channel ⌝ }
     ensures within { λ r. ⌜ r < 4 ⌝ }
 {
     match channel {
@@ -20,17 +20,17 @@ pub(crate) fn place_of(channel: Channel) -> usize
     }
 }
 
-pub(crate) fn least(a: usize, b: usize) -> usize
+pub(crate) fn lesser(a: usize, b: usize) -> usize
     ensures { λ r. ⌜ r ≡ min a b ⌝ }
 {
     if a < b { a } else { b }
 }
 
-// Copies the bytes at `place` of four pixels, from pixel `from` on, to dst from index `at` on: four plain moves. Of a loop by single
-// pixels the compiler makes wide steps that gather their bytes one by one, which take longer.
+// Copies the bytes at offset `place` of four pixels, from pixel `from` on, to dst from index `at` on. Four plain moves are faster than a loop over
+// single pixels, which the compiler vectorises with a gather of single bytes.
 fn copy_four(pixels: &[u8], place: usize, from: usize, dst: &mut [u8], at: usize)
     requires { ⌜ (place < 4) × ((from + 4 ≤ length (now pixels) / 4) × (at + 4 ≤ length (now dst))) ⌝ }
-    ensures { λ _. ⌜ now (dst .exit) ≡ putAt (now (dst .entry)) at (take 4 (drop from (spaced 4 place (length (now (pixels .entry)) / 4) (now (pixels .entry))))) ⌝ }
+    ensures { λ _. ⌜ now (dst .exit) ≡ writeAt (now (dst .entry)) at (take 4 (drop from (strided 4 place (length (now (pixels .entry)) / 4) (now (pixels .entry))))) ⌝ }
 {
     let first = from * BgrAChannels::STRIDE + place;
     let a = pixels[first];
@@ -43,10 +43,10 @@ fn copy_four(pixels: &[u8], place: usize, from: usize, dst: &mut [u8], at: usize
     dst[at + 3] = d;
 }
 
-// Copies the bytes at `place` of n pixels likewise, one by one.
+// The same for n pixels, one by one.
 fn copy_rest(pixels: &[u8], place: usize, from: usize, n: usize, dst: &mut [u8], at: usize)
     requires { ⌜ (place < 4) × ((from + n ≤ length (now pixels) / 4) × (at + n ≤ length (now dst))) ⌝ }
-    ensures { λ _. ⌜ now (dst .exit) ≡ putAt (now (dst .entry)) at (take n (drop from (spaced 4 place (length (now (pixels .entry)) / 4) (now (pixels .entry))))) ⌝ }
+    ensures { λ _. ⌜ now (dst .exit) ≡ writeAt (now (dst .entry)) at (take n (drop from (strided 4 place (length (now (pixels .entry)) / 4) (now (pixels .entry))))) ⌝ }
 {
     let mut i = 0;
     while i < n {
@@ -55,11 +55,11 @@ fn copy_rest(pixels: &[u8], place: usize, from: usize, n: usize, dst: &mut [u8],
     }
 }
 
-// Copies the bytes at `place` of n pixels, from pixel `from` on, to the start of dst: by fours, and then what is left. The stride is a
-// constant, for the compiler.
+// Copies the bytes at offset `place` of n pixels, from pixel `from` on, to the start of dst: four at a time, then the rest. The stride is a
+// constant so that the compiler can compute with it.
 pub(crate) fn copy_channel(pixels: &[u8], place: usize, from: usize, n: usize, dst: &mut [u8])
     requires { ⌜ (place < 4) × (from + n ≤ length (now pixels) / 4) × (n ≤ length (now dst)) ⌝ }
-    ensures { λ _. ⌜ now (dst .exit) ≡ over (now (dst .entry)) (take n (drop from (spaced 4 place (length (now (pixels .entry)) / 4) (now (pixels .entry))))) ⌝ }
+    ensures { λ _. ⌜ now (dst .exit) ≡ overwrite (now (dst .entry)) (take n (drop from (strided 4 place (length (now (pixels .entry)) / 4) (now (pixels .entry))))) ⌝ }
 {
     let mut i = 0;
     while 4 <= n - i {

@@ -1,17 +1,16 @@
-// Where the samples of a picture stand before it is packed (document 01, "Packing a picture"): each channel in a slice of its own, or all of
-// them in one slice of pixels.
+// Sources of a picture that is packed (FORMAT 7.1): each channel in a slice of its own, or all of them in one slice of pixels.
 mod copy;
 
 ghost use mathlib.Core.Path.{_≡_};
 ghost use lib.ListN.{length, take, drop};
-ghost use Rattle.rle_format.specs.Slice.{over};
+ghost use Rattle.rle_format.specs.Slice.{overwrite};
 ghost use Rattle.pixel_format.specs.declared.Channel.{Channel};
 ghost use Rattle.pixel_format.specs.Channel.{samplesOf};
 use copy::copy_channel;
-use copy::least;
-use copy::place_of;
+use copy::lesser;
+use copy::offset_of;
 
-// "Fixed numbers that belong to the layout's own type": a pixel's bytes, and the place of each channel among them.
+// Pixels of B, G, R, A: the bytes of a pixel, and the offset of each channel. The name is IronRDP's.
 pub struct BgrAChannels {}
 
 impl BgrAChannels {
@@ -33,13 +32,13 @@ pub enum Channel {
     A,
 }
 
-// How a slice holds the samples of a channel: every byte is one, or one byte of every pixel is.
+// Planar: every byte of the slice is a sample of the channel. BgrA: one byte of every pixel is.
 pub enum Layout {
     Planar,
     BgrA,
 }
 
-// How many samples of each channel a slice holds. A pixel slice "counts its whole pixels".
+// The number of samples of each channel in a slice; of pixels, those that are complete.
 pub fn sample_count(src: &[u8], layout: Layout) -> usize
     ensures { λ r. ⌜ ((c : Channel) → r ≡ length (samplesOf layout c (now (src .entry)))) ⌝ }
 {
@@ -49,19 +48,19 @@ pub fn sample_count(src: &[u8], layout: Layout) -> usize
     }
 }
 
-// Copies the samples of a channel, from sample `from` on, into dst: as many as it has room for, or as there are.
+// Copies the samples of a channel, from sample `from` on, into dst, until dst is full or there are no more.
 pub fn read_samples(src: &[u8], layout: Layout, channel: Channel, from: usize, dst: &mut [u8])
-    ensures { λ _. ⌜ now (dst .exit) ≡ over (now (dst .entry)) (take (length (now (dst .entry))) (drop from (samplesOf layout channel (now (src .entry))))) ⌝ }
+    ensures { λ _. ⌜ now (dst .exit) ≡ overwrite (now (dst .entry)) (take (length (now (dst .entry))) (drop from (samplesOf layout channel (now (src .entry))))) ⌝ }
 {
     let count = sample_count(src, layout);
     if count <= from {
         return;
     }
-    let n = least(count - from, dst.len());
+    let n = lesser(count - from, dst.len());
     match layout {
         Layout::Planar => {
             bytes::copy(&src[from..from + n], dst);
         }
-        Layout::BgrA => copy_channel(src, place_of(channel), from, n, dst),
+        Layout::BgrA => copy_channel(src, offset_of(channel), from, n, dst),
     }
 }

@@ -1,4 +1,4 @@
--- The header record that C's flags and numbers stand for.
+-- The header record, from the arguments of a C function.
 use Prim.Native.Nat.{ℕ}
 use mathlib.Core.Bool.{Bool}
 use lib.Dec.{eqb}
@@ -7,7 +7,7 @@ use Rattle.bitmap_format.specs.declared.BitmapStreamHeader.{BitmapStreamHeader}
 use Rattle.bitmap_format.specs.declared.ColorPlaneDefinition.{ColorPlaneDefinition}
 use Rattle.bitmap_format.specs.declared.ColorPlaneDefinition.the-variants.{Argb, AYCoCg}
 
--- 0 is ARGB, 1 is AYCoCg; any other number is AYCoCg with level 0, which is refused
+-- 0 is ARGB, 1 is AYCoCg. An unknown number is taken for AYCoCg with level 0, which is refused with 3
 unfoldable pub cDefinition : (definition level : ℕ) (subsampling : Bool) → ColorPlaneDefinition
 cDefinition definition level s = choose (eqb definition 0) Argb (AYCoCg (choose (eqb definition 1) level 0) s)
 

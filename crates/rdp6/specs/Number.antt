@@ -1,14 +1,14 @@
--- The one number that a C function answers.
+-- Answers as a C function returns them.
 use lib.IntN.{ℤ, pos, negℤ}
 use Rattle.rle_format.specs.Answer.{Answer, counted, refused}
-use Rattle.bitmap_format.specs.PackPicture.{Sent, sent, unsent}
+use Rattle.bitmap_format.specs.PackPicture.{EncodedAnswer, encodedCount, encodedRefusal}
 
--- a count as it is; a refusal as minus its number in document 01 ("Where each refusal is checked")
+-- a number of bytes as it is; a refusal as its negated number (FORMAT 8.4)
 abbrev pub cNumber : Answer → ℤ
 cNumber (counted n) = pos n
 cNumber (refused r) = negℤ (pos r)
 
--- a packed picture's count, without the header record. C's caller has that: it is RLE as asked, ARGB, alpha flag false
-abbrev pub answerOf : Sent → Answer
-answerOf (sent n header) = counted n
-answerOf (unsent r) = refused r
+-- the answer of packing a picture without the header record, which a C caller can write down itself (FORMAT 7.5)
+abbrev pub dropHeader : EncodedAnswer → Answer
+dropHeader (encodedCount n header) = counted n
+dropHeader (encodedRefusal r) = refused r

@@ -1,19 +1,19 @@
-// The C interface of librdp6.a; include/rdp6.h has the prototypes. A slice passes as a pointer and a length. Each function calls
-// the entry of the same name and turns its answer into one number; nothing is kept between calls.
+// The C interface of librdp6.a; include/rdp6.h has the prototypes. A slice is passed as a pointer and a length. Each function calls the function
+// of the same name of another crate and returns its answer as one number (FORMAT 8.4).
 ghost use mathlib.Core.Path.{_≡_};
 ghost use mathlib.Core.Bool.{false};
 ghost use Prim.Native.Nat.{ℕ, _≤_, _<_};
 ghost use lib.ListN.{length};
-ghost use Rattle.rle_format.specs.Answer.{refused, number, told, toldPacked};
-ghost use Rattle.rle_format.specs.Sides.{withinSides};
-ghost use Rattle.rle_format.specs.Slice.{over};
+ghost use Rattle.rle_format.specs.Answer.{refused, number, toAnswer, packedToAnswer};
+ghost use Rattle.rle_format.specs.Sides.{checkSides};
+ghost use Rattle.rle_format.specs.Slice.{overwrite};
 ghost use Rattle.rle_format.specs.Unpack.{unpackPlane};
 ghost use Rattle.rle_format.specs.Pack.{packPlane};
 ghost use Rattle.bitmap_format.specs.Sizes.{workSize, imageSize};
-ghost use Rattle.bitmap_format.specs.Picture.{unpackPicture, toldDecoded};
+ghost use Rattle.bitmap_format.specs.Picture.{unpackPicture, decodedToAnswer};
 ghost use Rattle.pixel_format.specs.Channel.{bgrA};
-ghost use Rattle.bitmap_format.specs.PackPicture.{threePlanes, fourPlanes, pixelPlanes, pixelPlanesAlpha, packPicture, toldEncoded};
-ghost use Rattle.rdp6.specs.Number.{cNumber, answerOf};
+ghost use Rattle.bitmap_format.specs.PackPicture.{threePlanes, fourPlanes, pixelPlanes, pixelPlanesAlpha, packPicture, encodedToAnswer};
+ghost use Rattle.rdp6.specs.Number.{cNumber, dropHeader};
 ghost use Rattle.rdp6.specs.Header.{cDefinition, cHeader};
 use bitmap_format::BitmapStreamHeader;
 use bitmap_format::ColorPlaneDefinition;
@@ -23,17 +23,17 @@ use rle_format::Packed;
 use rle_format::Refusal;
 use rle_format::Unpacked;
 
-// The number that a refusal is in C.
+// A refusal as a C function returns it.
 fn refusal_number(reason: Refusal) -> i64
     ensures { λ r. ⌜ r ≡ cNumber (refused (number reason)) ⌝ }
 {
     -(rle_format::number_of(reason) as i64)
 }
 
-// The number that an answer of unpacking is. A plane is never read from more than two bytes a sample, so its count fits.
+// The answer of unpacking a plane, as C gets it. It fits 64 bits, since no plane is read from more than two bytes a sample.
 fn unpacked_number(answer: Unpacked) -> i64
     requires { ⌜ ((n : ℕ) → answer ≡ Unpacked.Read n → n ≤ 134217728) ⌝ }
-    ensures { λ r. ⌜ r ≡ cNumber (told answer) ⌝ }
+    ensures { λ r. ⌜ r ≡ cNumber (toAnswer answer) ⌝ }
 {
     match answer {
         Unpacked::Read(read) => read as i64,
@@ -41,10 +41,10 @@ fn unpacked_number(answer: Unpacked) -> i64
     }
 }
 
-// The number that an answer of packing is. A plane is never packed in more than two bytes a sample.
+// The answer of packing a plane. No plane is packed in more than two bytes a sample.
 fn packed_number(answer: Packed) -> i64
     requires { ⌜ ((n : ℕ) → answer ≡ Packed.Written n → n ≤ 134217728) ⌝ }
-    ensures { λ r. ⌜ r ≡ cNumber (toldPacked answer) ⌝ }
+    ensures { λ r. ⌜ r ≡ cNumber (packedToAnswer answer) ⌝ }
 {
     match answer {
         Packed::Written(written) => written as i64,
@@ -52,10 +52,10 @@ fn packed_number(answer: Packed) -> i64
     }
 }
 
-// The number that an answer of unpacking a picture is. A picture never has more than 3 × 8,192 × 8,192 bytes.
+// The answer of unpacking a picture. No image has more than 3 × 8,192 × 8,192 bytes.
 fn decoded_number(answer: Decoded) -> i64
     requires { ⌜ ((n : ℕ) → answer ≡ Decoded.Written n → n ≤ 201326592) ⌝ }
-    ensures { λ r. ⌜ r ≡ cNumber (toldDecoded answer) ⌝ }
+    ensures { λ r. ⌜ r ≡ cNumber (decodedToAnswer answer) ⌝ }
 {
     match answer {
         Decoded::Written(written) => written as i64,
@@ -63,10 +63,10 @@ fn decoded_number(answer: Decoded) -> i64
     }
 }
 
-// The number that an answer of packing a picture is. A count is within the destination, and no slice has 2^63 bytes.
+// The answer of packing a picture. It is at most the length of the destination, and no slice has 2^63 bytes.
 fn encoded_number(answer: Encoded) -> i64
     requires { ⌜ ((n : ℕ) (h : BitmapStreamHeader) → answer ≡ Encoded.Written n h → n < 9223372036854775808) ⌝ }
-    ensures { λ r. ⌜ r ≡ cNumber (answerOf (toldEncoded answer)) ⌝ }
+    ensures { λ r. ⌜ r ≡ cNumber (dropHeader (encodedToAnswer answer)) ⌝ }
 {
     match answer {
         Encoded::Written { bytes, header: _ } => bytes as i64,
@@ -74,7 +74,7 @@ fn encoded_number(answer: Encoded) -> i64
     }
 }
 
-// The plane definition that C's numbers stand for.
+// The plane definition, from the arguments of a C function. An unknown number is refused with 3, by way of loss level 0.
 fn definition_of(definition: u8, level: u8, subsampling: bool) -> ColorPlaneDefinition
     ensures { λ r. ⌜ r ≡ cDefinition definition level subsampling ⌝ }
 {
@@ -93,7 +93,7 @@ fn definition_of(definition: u8, level: u8, subsampling: bool) -> ColorPlaneDefi
     }
 }
 
-// The header record that C's flags and numbers stand for.
+// The header record, from the arguments of a C function.
 fn header_of(
     rle: bool,
     alpha: bool,
@@ -118,7 +118,7 @@ pub extern "C" fn rdp6_decompress_8bpp_plane(
     height: usize,
 ) -> i64
     ensures answer { λ r. ⌜ r ≡ cNumber (unpackPlane width height (length (now (dst .entry))) (now (src .entry)) .answer) ⌝ }
-    ensures slice { λ _. ⌜ now (dst .exit) ≡ over (now (dst .entry)) (unpackPlane width height (length (now (dst .entry))) (now (src .entry)) .written) ⌝ }
+    ensures slice { λ _. ⌜ now (dst .exit) ≡ overwrite (now (dst .entry)) (unpackPlane width height (length (now (dst .entry))) (now (src .entry)) .written) ⌝ }
 {
     unpacked_number(rle_decoder::decompress_8bpp_plane(src, dst, width, height))
 }
@@ -131,7 +131,7 @@ pub extern "C" fn rdp6_compress_8bpp_plane(
     height: usize,
 ) -> i64
     ensures answer { λ r. ⌜ r ≡ cNumber (packPlane width height (length (now (dst .entry))) (now (src .entry)) .answer) ⌝ }
-    ensures slice { λ _. ⌜ now (dst .exit) ≡ over (now (dst .entry)) (packPlane width height (length (now (dst .entry))) (now (src .entry)) .written) ⌝ }
+    ensures slice { λ _. ⌜ now (dst .exit) ≡ overwrite (now (dst .entry)) (packPlane width height (length (now (dst .entry))) (now (src .entry)) .written) ⌝ }
 {
     packed_number(rle_encoder::compress_8bpp_plane(src, dst, width, height))
 }
@@ -165,7 +165,7 @@ pub extern "C" fn rdp6_work_size(
     width: usize,
     height: usize,
 ) -> usize
-    ensures { λ r. ⌜ r ≡ withinSides (λ (_ : ℕ). 0) width height (workSize (cHeader rle false definition 0 subsampling) width height) ⌝ }
+    ensures { λ r. ⌜ r ≡ checkSides (λ (_ : ℕ). 0) width height (workSize (cHeader rle false definition 0 subsampling) width height) ⌝ }
 {
     let header = header_of(rle, false, definition, 0, subsampling);
     bitmap_format::work_size(header, width, height)
@@ -173,7 +173,7 @@ pub extern "C" fn rdp6_work_size(
 
 #[no_mangle]
 pub extern "C" fn rdp6_image_size(width: usize, height: usize) -> usize
-    ensures { λ r. ⌜ r ≡ withinSides (λ (_ : ℕ). 0) width height (imageSize width height) ⌝ }
+    ensures { λ r. ⌜ r ≡ checkSides (λ (_ : ℕ). 0) width height (imageSize width height) ⌝ }
 {
     bitmap_format::image_size(width, height)
 }
@@ -189,7 +189,7 @@ pub extern "C" fn rdp6_encode_channels_stream(
     height: usize,
 ) -> i64
     ensures answer { λ n. ⌜ n ≡ cNumber (packPicture rle width height (length (now (dst .entry))) (threePlanes (now (r .entry)) (now (g .entry)) (now (b .entry))) .answer) ⌝ }
-    ensures slice { λ _. ⌜ now (dst .exit) ≡ over (now (dst .entry)) (packPicture rle width height (length (now (dst .entry))) (threePlanes (now (r .entry)) (now (g .entry)) (now (b .entry))) .written) ⌝ }
+    ensures slice { λ _. ⌜ now (dst .exit) ≡ overwrite (now (dst .entry)) (packPicture rle width height (length (now (dst .entry))) (threePlanes (now (r .entry)) (now (g .entry)) (now (b .entry))) .written) ⌝ }
 {
     let answer = bitmap_encoder::encode_channels_stream(r, g, b, dst, rle, width, height);
     encoded_number(answer)
@@ -207,7 +207,7 @@ pub extern "C" fn rdp6_encode_channels_stream_alpha(
     height: usize,
 ) -> i64
     ensures answer { λ n. ⌜ n ≡ cNumber (packPicture rle width height (length (now (dst .entry))) (fourPlanes (now (r .entry)) (now (g .entry)) (now (b .entry)) (now (a .entry))) .answer) ⌝ }
-    ensures slice { λ _. ⌜ now (dst .exit) ≡ over (now (dst .entry)) (packPicture rle width height (length (now (dst .entry))) (fourPlanes (now (r .entry)) (now (g .entry)) (now (b .entry)) (now (a .entry))) .written) ⌝ }
+    ensures slice { λ _. ⌜ now (dst .exit) ≡ overwrite (now (dst .entry)) (packPicture rle width height (length (now (dst .entry))) (fourPlanes (now (r .entry)) (now (g .entry)) (now (b .entry)) (now (a .entry))) .written) ⌝ }
 {
     let answer = bitmap_encoder::encode_channels_stream_alpha(r, g, b, a, dst, rle, width, height);
     encoded_number(answer)
@@ -222,7 +222,7 @@ pub extern "C" fn rdp6_encode_bitmap(
     height: usize,
 ) -> i64
     ensures answer { λ n. ⌜ n ≡ cNumber (packPicture rle width height (length (now (dst .entry))) (pixelPlanes bgrA (now (src .entry))) .answer) ⌝ }
-    ensures slice { λ _. ⌜ now (dst .exit) ≡ over (now (dst .entry)) (packPicture rle width height (length (now (dst .entry))) (pixelPlanes bgrA (now (src .entry))) .written) ⌝ }
+    ensures slice { λ _. ⌜ now (dst .exit) ≡ overwrite (now (dst .entry)) (packPicture rle width height (length (now (dst .entry))) (pixelPlanes bgrA (now (src .entry))) .written) ⌝ }
 {
     let answer = bitmap_encoder::encode_bitmap(src, dst, rle, width, height);
     encoded_number(answer)
@@ -237,7 +237,7 @@ pub extern "C" fn rdp6_encode_bitmap_alpha(
     height: usize,
 ) -> i64
     ensures answer { λ n. ⌜ n ≡ cNumber (packPicture rle width height (length (now (dst .entry))) (pixelPlanesAlpha bgrA (now (src .entry))) .answer) ⌝ }
-    ensures slice { λ _. ⌜ now (dst .exit) ≡ over (now (dst .entry)) (packPicture rle width height (length (now (dst .entry))) (pixelPlanesAlpha bgrA (now (src .entry))) .written) ⌝ }
+    ensures slice { λ _. ⌜ now (dst .exit) ≡ overwrite (now (dst .entry)) (packPicture rle width height (length (now (dst .entry))) (pixelPlanesAlpha bgrA (now (src .entry))) .written) ⌝ }
 {
     let answer = bitmap_encoder::encode_bitmap_alpha(src, dst, rle, width, height);
     encoded_number(answer)

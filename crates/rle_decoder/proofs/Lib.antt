@@ -1,3 +1,3 @@
 mod Segments
-mod Turns
-mod Rows
+mod RowLoop
+mod RowsLoop

@@ -1,4 +1,4 @@
-// Unpacks a plane of an RDP 6.0 picture (MS-RDPEGDI 3.1.9.2): the decoding half of the Rust's rdp6/rle.rs.
+// Unpacks an RLE plane (FORMAT 3, 4; MS-RDPEGDI 3.1.9.2): the decoding half of IronRDP's rdp6/rle.rs.
 mod copy;
 mod delta;
 mod row;
@@ -8,8 +8,8 @@ ghost use mathlib.Core.Path.{_≡_};
 ghost use mathlib.Core.Option.{none};
 ghost use Prim.Native.Nat.{_+_, _*_, _≤_, _<_};
 ghost use lib.ListN.{length};
-ghost use Rattle.rle_format.specs.Answer.{told};
-ghost use Rattle.rle_format.specs.Slice.{over};
+ghost use Rattle.rle_format.specs.Answer.{toAnswer};
+ghost use Rattle.rle_format.specs.Slice.{overwrite};
 ghost use Rattle.rle_format.specs.Unpack.{unpackRows, unpackPlane};
 ghost use Rattle.rle_decoder.specs.Rows.{rowsBelow};
 use delta::resolve_scanline_delta;
@@ -18,12 +18,12 @@ use rle_format::Refusal;
 use rle_format::Unpacked;
 use row::decode_scanline;
 
-// The first width bytes of dst are a row of samples, read from the bytes of src before `from`. Reads so many rows below it. The
-// answer counts the bytes before `from` too.
+// Reads `rows` rows, below the row of samples that the first width bytes of dst have. Their bytes begin at index `from` of src. The answer
+// includes the bytes before that.
 fn decode_rows_below(src: &[u8], from: usize, dst: &mut [u8], width: usize, rows: usize) -> Unpacked
     requires { ⌜ (width + rows * width ≤ length (now dst)) × (from ≤ length (now src)) ⌝ }
-    ensures answer { λ r. ⌜ told r ≡ rowsBelow (now (src .entry)) (now (dst .entry)) width rows from .answer ⌝ }
-    ensures slice { λ _. ⌜ now (dst .exit) ≡ over (now (dst .entry)) (rowsBelow (now (src .entry)) (now (dst .entry)) width rows from .written) ⌝ }
+    ensures answer { λ r. ⌜ toAnswer r ≡ rowsBelow (now (src .entry)) (now (dst .entry)) width rows from .answer ⌝ }
+    ensures slice { λ _. ⌜ now (dst .exit) ≡ overwrite (now (dst .entry)) (rowsBelow (now (src .entry)) (now (dst .entry)) width rows from .written) ⌝ }
 {
     let mut at = from;
     let mut above: usize = 0;
@@ -42,11 +42,11 @@ fn decode_rows_below(src: &[u8], from: usize, dst: &mut [u8], width: usize, rows
     Unpacked::Read(at)
 }
 
-// Reads the rows of a plane into the start of dst: the first by value, and those below it by the row above.
+// Reads the rows of a plane into the start of dst. The first row is not delta coded.
 fn decode(src: &[u8], dst: &mut [u8], width: usize, height: usize) -> Unpacked
     requires { ⌜ (0 < height) × (width * height ≤ length (now dst)) ⌝ }
-    ensures answer { λ r. ⌜ told r ≡ unpackRows width height none (now (src .entry)) .answer ⌝ }
-    ensures slice { λ _. ⌜ now (dst .exit) ≡ over (now (dst .entry)) (unpackRows width height none (now (src .entry)) .written) ⌝ }
+    ensures answer { λ r. ⌜ toAnswer r ≡ unpackRows width height none (now (src .entry)) .answer ⌝ }
+    ensures slice { λ _. ⌜ now (dst .exit) ≡ overwrite (now (dst .entry)) (unpackRows width height none (now (src .entry)) .written) ⌝ }
 {
     let first = decode_scanline(src, 0, dst, width);
     let Unpacked::Read(read) = first else {
@@ -55,11 +55,11 @@ fn decode(src: &[u8], dst: &mut [u8], width: usize, height: usize) -> Unpacked
     decode_rows_below(src, read, dst, width, height - 1)
 }
 
-// Unpacks a plane of width × height samples from src into the first bytes of dst, and answers how many bytes of src were read.
-// On every input: refusals 1, 2, 10, 7, 8 and 9 of document 01 in that document's order, and every byte of dst as it says.
+// Unpacks a plane of width × height samples from src into the first bytes of dst, and returns the number of bytes of src that were read.
+// Refusals 1, 2, 10, then 7, 8, 9; FORMAT 8.3 says what each leaves in dst.
 pub fn decompress_8bpp_plane(src: &[u8], dst: &mut [u8], width: usize, height: usize) -> Unpacked
-    ensures answer { λ r. ⌜ told r ≡ unpackPlane width height (length (now (dst .entry))) (now (src .entry)) .answer ⌝ }
-    ensures slice { λ _. ⌜ now (dst .exit) ≡ over (now (dst .entry)) (unpackPlane width height (length (now (dst .entry))) (now (src .entry)) .written) ⌝ }
+    ensures answer { λ r. ⌜ toAnswer r ≡ unpackPlane width height (length (now (dst .entry))) (now (src .entry)) .answer ⌝ }
+    ensures slice { λ _. ⌜ now (dst .exit) ≡ overwrite (now (dst .entry)) (unpackPlane width height (length (now (dst .entry))) (now (src .entry)) .written) ⌝ }
 {
     if width == 0 {
         return Unpacked::Refused(Refusal::ZeroSize);

@@ -1,11 +1,11 @@
-// One row: segments until it is full.
+// Reading a row: segments until it is full (FORMAT 4.1).
 ghost use mathlib.Core.Path.{_≡_};
 ghost use Prim.Native.Nat.{_+_, _≤_};
 ghost use mathlib.Core.List.{_++_};
 ghost use lib.ListN.{length, replicate};
-ghost use Rattle.rle_format.specs.Answer.{told};
-ghost use Rattle.rle_format.specs.Slice.{over, putAt};
-ghost use Rattle.rle_decoder.specs.NextSegment.{toldSegment, stoppedBy};
+ghost use Rattle.rle_format.specs.Answer.{toAnswer};
+ghost use Rattle.rle_format.specs.Slice.{overwrite, writeAt};
+ghost use Rattle.rle_decoder.specs.NextSegment.{nextToAnswer, rowStop};
 ghost use Rattle.rle_decoder.specs.Rows.{codedRow};
 use crate::copy::copy_raw;
 use crate::segment::NextSegment;
@@ -13,10 +13,10 @@ use crate::segment::decompress_next_segment;
 use rle_format::Refusal;
 use rle_format::Unpacked;
 
-// Writes a value `run` times to dst from index `at` on.
+// Writes `run` copies of a value to dst from index `at` on.
 fn fill_run(dst: &mut [u8], at: usize, run: usize, value: u8)
     requires { ⌜ at + run ≤ length (now dst) ⌝ }
-    ensures { λ _. ⌜ now (dst .exit) ≡ putAt (now (dst .entry)) at (replicate run value) ⌝ }
+    ensures { λ _. ⌜ now (dst .exit) ≡ writeAt (now (dst .entry)) at (replicate run value) ⌝ }
 {
     let mut i = 0;
     while i < run {
@@ -25,18 +25,18 @@ fn fill_run(dst: &mut [u8], at: usize, run: usize, value: u8)
     }
 }
 
-// Writes a segment's values to dst from a column on: its raw bytes, and then the run of the last byte.
+// Writes the values of a segment to dst from index `column` on.
 fn write_segment(raw: &[u8], run: usize, last: u8, dst: &mut [u8], column: usize)
     requires { ⌜ (length (now raw) ≤ 15) × (column + (length (now raw) + run) ≤ length (now dst)) ⌝ }
-    ensures { λ _. ⌜ now (dst .exit) ≡ putAt (now (dst .entry)) column (now (raw .entry) ++ replicate run last) ⌝ }
+    ensures { λ _. ⌜ now (dst .exit) ≡ writeAt (now (dst .entry)) column (now (raw .entry) ++ replicate run last) ⌝ }
 {
     copy_raw(raw, dst, column);
     fill_run(dst, column + raw.len(), run, last);
 }
 
-// Why the row stops at a segment: its refusal; and of one that was read, that it passes the width.
-fn stopped_by(segment: NextSegment) -> Unpacked
-    ensures { λ r. ⌜ told r ≡ stoppedBy (toldSegment segment) ⌝ }
+// The refusal of a row that ends at a segment: that of the segment or, if it was read, that it overruns the row.
+fn row_stop(segment: NextSegment) -> Unpacked
+    ensures { λ r. ⌜ toAnswer r ≡ rowStop (nextToAnswer segment) ⌝ }
 {
     match segment {
         NextSegment::Refused(reason) => Unpacked::Refused(reason),
@@ -48,12 +48,12 @@ fn stopped_by(segment: NextSegment) -> Unpacked
     }
 }
 
-// Reads a row's coded values, from the bytes of src from `from` on, into the first width bytes of dst. The row above is not
-// added here, so that a refused row is left as its coded values.
+// Reads a row, from index `from` of src on, into the first width bytes of dst, as coded values: the delta code is undone only once the row is
+// full, so that a refused row keeps its coded values.
 pub(crate) fn decode_scanline(src: &[u8], from: usize, dst: &mut [u8], width: usize) -> Unpacked
     requires { ⌜ width ≤ length (now dst) ⌝ }
-    ensures answer { λ r. ⌜ told r ≡ codedRow (now (src .entry)) from width .answer ⌝ }
-    ensures slice { λ _. ⌜ now (dst .exit) ≡ over (now (dst .entry)) (codedRow (now (src .entry)) from width .written) ⌝ }
+    ensures answer { λ r. ⌜ toAnswer r ≡ codedRow (now (src .entry)) from width .answer ⌝ }
+    ensures slice { λ _. ⌜ now (dst .exit) ≡ overwrite (now (dst .entry)) (codedRow (now (src .entry)) from width .written) ⌝ }
 {
     let mut at = from;
     let mut column: usize = 0;
@@ -66,10 +66,10 @@ pub(crate) fn decode_scanline(src: &[u8], from: usize, dst: &mut [u8], width: us
             last: next,
         } = segment
         else {
-            return stopped_by(segment);
+            return row_stop(segment);
         };
         if width - column < raw + run {
-            return stopped_by(segment);
+            return row_stop(segment);
         }
         let start = at + 1;
         let end = start + raw;

@@ -1,18 +1,18 @@
-// One segment: what its control byte says, and where it ends.
+// Reading a segment (FORMAT 3).
 ghost use mathlib.Core.Path.{_≡_};
 ghost use Prim.Native.Nat.{ℕ, _+_, _≤_, _<_};
 ghost use lib.ListN.{length, take, drop};
-ghost use Rattle.rle_format.specs.Segment.{rawCount, runLength, readSegment, lastOf};
-ghost use Rattle.rle_decoder.specs.NextSegment.{answerTo, toldSegment};
+ghost use Rattle.rle_format.specs.Segment.{rawCount, runLength, readSegment, lastOr};
+ghost use Rattle.rle_decoder.specs.NextSegment.{segmentAnswer, nextToAnswer};
 use rle_format::Refusal;
 
-// A segment that was read: its raw bytes, its run, and the last byte after it; or the refusal.
+// A segment that was read: the number of its raw bytes, its run, and the last byte after it; or the refusal.
 pub(crate) enum NextSegment {
     Read { raw: usize, run: usize, last: u8 },
     Refused(Refusal),
 }
 
-// What a control byte says: so many raw bytes follow, and then a run.
+// What a control byte says: the number of raw bytes that follow it, and the run.
 struct Control {
     raw: usize,
     run: usize,
@@ -41,10 +41,10 @@ fn control_fields(control: u8) -> Control
     }
 }
 
-// The last of the raw bytes behind the control byte at `at`, or the last byte before where there are none.
+// The last byte after the segment whose control byte is at index `at`, given the last byte before it.
 fn last_decoded_byte(src: &[u8], at: usize, raw: usize, last: u8) -> u8
     requires { ⌜ at + raw < length (now src) ⌝ }
-    ensures { λ r. ⌜ r ≡ lastOf last (take raw (drop (at + 1) (now (src .entry)))) ⌝ }
+    ensures { λ r. ⌜ r ≡ lastOr last (take raw (drop (at + 1) (now (src .entry)))) ⌝ }
 {
     if raw == 0 {
         return last;
@@ -52,10 +52,10 @@ fn last_decoded_byte(src: &[u8], at: usize, raw: usize, last: u8) -> u8
     src[at + raw]
 }
 
-// Reads the segment at a position of src, where `last` is the last byte before it. Nothing is copied: the row copies the raw
-// bytes once it knows that they fit.
+// Reads the segment at index `at` of src; `last` is the last byte before it. Nothing is copied: the caller copies the raw bytes once it knows
+// that the segment fits the row.
 pub(crate) fn decompress_next_segment(src: &[u8], at: usize, last: u8) -> NextSegment
-    ensures read { λ r. ⌜ toldSegment r ≡ answerTo last (readSegment (drop at (now (src .entry)))) ⌝ }
+    ensures read { λ r. ⌜ nextToAnswer r ≡ segmentAnswer last (readSegment (drop at (now (src .entry)))) ⌝ }
     ensures short { λ r. ⌜ ((raw run next : ℕ) → r ≡ NextSegment.Read raw run next → (raw ≤ 15) × (raw + run ≤ 47)) ⌝ }
 {
     if src.len() <= at {

@@ -1,4 +1,4 @@
--- A slice whose values are replaced from the first on, one in a turn of a loop.
+-- A slice whose values are replaced from the first on, one in each iteration of a loop.
 use mathlib.Core.Path.{_≡_, refl, sym, ap, _∙_}
 use mathlib.Core.List.{List, [], _∷_, _++_}
 use Prim.Native.Nat.{ℕ, suc, _+_, _<_}
@@ -14,8 +14,8 @@ pub record Replaced (old new now : List ℕ) (i : ℕ) : Type 0 where
   pub first : take i now ≡ take i new
   pub rest : drop i now ≡ drop i old
 
-pub replaced-none : (old new : List ℕ) → Replaced old new old 0
-replaced-none old new = record { len = refl; first = refl; rest = refl }
+pub replaced-start : (old new : List ℕ) → Replaced old new old 0
+replaced-start old new = record { len = refl; first = refl; rest = refl }
 
 module _ {old new now : List ℕ} {i : ℕ} (h : Replaced old new now i) where
   -- the value that is to be replaced next
@@ -24,8 +24,8 @@ module _ {old new now : List ℕ} {i : ℕ} (h : Replaced old new now i) where
       let here : (l : List ℕ) → getD (drop i l) 0 0 ≡ getD l i 0 = λ l. getD-drop i l 0 0 ∙ ap (λ (k : ℕ). getD l k 0) (add-zero i) in
       sym (here now) ∙ ap (λ (l : List ℕ). getD l 0 0) (h .rest) ∙ here old
 
-  pub replaced-more : (v : ℕ) → i < length now → i < length new → v ≡ getD new i 0 → Replaced old new (set now i v) (i + 1)
-  replaced-more v k l is =
+  pub replaced-step : (v : ℕ) → i < length now → i < length new → v ≡ getD new i 0 → Replaced old new (set now i v) (i + 1)
+  replaced-step v k l is =
       let o : i + 1 ≡ suc i = add-one i in
       record {
         len = simp length-set (h .len);
@@ -33,5 +33,5 @@ module _ {old new now : List ℕ} {i : ℕ} (h : Replaced old new now i) where
         rest = drop-set-lt (i + 1) now i v (omega arith) ∙ sym (drop-drop 1 i now) ∙ ap (drop 1) (h .rest) ∙ drop-drop 1 i old;
       }
 
-  pub replaced-all : i ≡ length now → length new ≡ length now → now ≡ new
-  replaced-all all same = sym (take-all i now (omega arith)) ∙ h .first ∙ take-all i new (omega arith)
+  pub replaced-end : i ≡ length now → length new ≡ length now → now ≡ new
+  replaced-end all same = sym (take-all i now (omega arith)) ∙ h .first ∙ take-all i new (omega arith)

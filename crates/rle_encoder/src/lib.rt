@@ -1,11 +1,11 @@
-// Packs a plane of an RDP 6.0 picture (MS-RDPEGDI 3.1.9.2): the encoding half of the Rust's rdp6/rle.rs.
+// Packs an RLE plane (FORMAT 5; MS-RDPEGDI 3.1.9.2): the encoding half of IronRDP's rdp6/rle.rs.
 mod delta;
 
 ghost use mathlib.Core.Path.{_≡_};
 ghost use Prim.Native.Nat.{_*_, _≤_, _<_};
 ghost use lib.ListN.{length};
-ghost use Rattle.rle_format.specs.Answer.{toldPacked};
-ghost use Rattle.rle_format.specs.Slice.{over};
+ghost use Rattle.rle_format.specs.Answer.{packedToAnswer};
+ghost use Rattle.rle_format.specs.Slice.{overwrite};
 ghost use Rattle.rle_format.specs.Pack.{rowSegments, planeSegments, writeSegments, packPlane};
 ghost use Rattle.rle_format.specs.Written.{answerAt, sliceAt};
 ghost use Rattle.pixel_format.specs.Channel.{samplesOf};
@@ -19,10 +19,10 @@ use rle_format::Packed;
 use rle_format::Refusal;
 use rle_scanline_encoder::encode_scanline;
 
-// Packs a row into dst from index `at` on, and answers the index behind it.
+// Packs a row into dst from index `at` on, and returns the index behind it.
 fn encode_next_row(codes: &[u8], dst: &mut [u8], at: usize) -> Packed
     requires { ⌜ at ≤ length (now dst) ⌝ }
-    ensures answer { λ r. ⌜ toldPacked r ≡ answerAt (rowSegments (now (codes .entry))) (now (dst .entry)) at ⌝ }
+    ensures answer { λ r. ⌜ packedToAnswer r ≡ answerAt (rowSegments (now (codes .entry))) (now (dst .entry)) at ⌝ }
     ensures slice { λ _. ⌜ now (dst .exit) ≡ sliceAt (rowSegments (now (codes .entry))) (now (dst .entry)) at ⌝ }
 {
     let answer = encode_scanline(codes, &mut dst[at..]);
@@ -32,8 +32,8 @@ fn encode_next_row(codes: &[u8], dst: &mut [u8], at: usize) -> Packed
     Packed::Written(at + bytes)
 }
 
-// Packs the rows of a channel from the top. Each row's samples are read once, wherever the layout has them, into a local array, and
-// nothing after that knows of layouts. The array then holds the row's coded values, and the other one its samples, for the row below.
+// Packs the rows of a channel, the first row first. The samples of a row are read into a local array, whatever the layout, and then replaced by the
+// coded values; the second array keeps the samples for the row below.
 fn encode(
     src: &[u8],
     layout: Layout,
@@ -43,8 +43,8 @@ fn encode(
     height: usize,
 ) -> Packed
     requires { ⌜ (0 < width) × (width ≤ 8192) × (height ≤ 8192) × (width * height ≤ length (samplesOf layout channel (now src))) ⌝ }
-    ensures answer { λ r. ⌜ toldPacked r ≡ writeSegments (planeSegments width height (samplesOf layout channel (now (src .entry)))) (length (now (dst .entry))) .answer ⌝ }
-    ensures slice { λ _. ⌜ now (dst .exit) ≡ over (now (dst .entry)) (writeSegments (planeSegments width height (samplesOf layout channel (now (src .entry)))) (length (now (dst .entry))) .written) ⌝ }
+    ensures answer { λ r. ⌜ packedToAnswer r ≡ writeSegments (planeSegments width height (samplesOf layout channel (now (src .entry)))) (length (now (dst .entry))) .answer ⌝ }
+    ensures slice { λ _. ⌜ now (dst .exit) ≡ overwrite (now (dst .entry)) (writeSegments (planeSegments width height (samplesOf layout channel (now (src .entry)))) (length (now (dst .entry))) .written) ⌝ }
 {
     let mut above = [0u8; MAX_SIDE];
     let mut codes = [0u8; MAX_SIDE];
@@ -63,8 +63,8 @@ fn encode(
     Packed::Written(to)
 }
 
-// Packs the first width × height samples of a channel into the first bytes of dst, and answers how many bytes were written. On every
-// input: refusals 1, 2, 11 and 12 of document 01 in that document's order, and every byte of dst as it says.
+// Packs the first width × height samples of a channel into the first bytes of dst, and returns the number of bytes written. Refusals 1, 2, 11,
+// then 12; FORMAT 8.3 says what each leaves in dst.
 pub fn compress_8bpp_channel(
     src: &[u8],
     layout: Layout,
@@ -73,8 +73,8 @@ pub fn compress_8bpp_channel(
     width: usize,
     height: usize,
 ) -> Packed
-    ensures answer { λ r. ⌜ toldPacked r ≡ packPlane width height (length (now (dst .entry))) (samplesOf layout channel (now (src .entry))) .answer ⌝ }
-    ensures slice { λ _. ⌜ now (dst .exit) ≡ over (now (dst .entry)) (packPlane width height (length (now (dst .entry))) (samplesOf layout channel (now (src .entry))) .written) ⌝ }
+    ensures answer { λ r. ⌜ packedToAnswer r ≡ packPlane width height (length (now (dst .entry))) (samplesOf layout channel (now (src .entry))) .answer ⌝ }
+    ensures slice { λ _. ⌜ now (dst .exit) ≡ overwrite (now (dst .entry)) (packPlane width height (length (now (dst .entry))) (samplesOf layout channel (now (src .entry))) .written) ⌝ }
 {
     if width == 0 {
         return Packed::Refused(Refusal::ZeroSize);
@@ -94,10 +94,10 @@ pub fn compress_8bpp_channel(
     encode(src, layout, channel, dst, width, height)
 }
 
-// Packs the first width × height bytes of src in the same way: a plane by itself, of which channel does not matter.
+// The same for a slice that has the samples of one plane. The channel does not matter then.
 pub fn compress_8bpp_plane(src: &[u8], dst: &mut [u8], width: usize, height: usize) -> Packed
-    ensures answer { λ r. ⌜ toldPacked r ≡ packPlane width height (length (now (dst .entry))) (now (src .entry)) .answer ⌝ }
-    ensures slice { λ _. ⌜ now (dst .exit) ≡ over (now (dst .entry)) (packPlane width height (length (now (dst .entry))) (now (src .entry)) .written) ⌝ }
+    ensures answer { λ r. ⌜ packedToAnswer r ≡ packPlane width height (length (now (dst .entry))) (now (src .entry)) .answer ⌝ }
+    ensures slice { λ _. ⌜ now (dst .exit) ≡ overwrite (now (dst .entry)) (packPlane width height (length (now (dst .entry))) (now (src .entry)) .written) ⌝ }
 {
     compress_8bpp_channel(src, Layout::Planar, Channel::R, dst, width, height)
 }

@@ -1,4 +1,4 @@
--- The twelve numbers tell the refusals apart, so that a contract `told r ≡ a` or `toldPacked r ≡ a` determines r; and none is over 12.
+-- The twelve numbers are different, so that a contract `toAnswer r ≡ a` or `packedToAnswer r ≡ a` determines r; and none is over 12.
 use mathlib.Core.Path.{_≡_, refl, sym, ap, _∙_}
 use Prim.Native.Nat.{ℕ, _≤_}
 use native.Mathlib.Omega.{arith}
@@ -10,15 +10,15 @@ use Rattle.rle_format.specs.declared.Unpacked.{Unpacked}
 use Rattle.rle_format.specs.declared.Unpacked.the-variants as unpacked
 use Rattle.rle_format.specs.declared.Packed.{Packed}
 use Rattle.rle_format.specs.declared.Packed.the-variants as packed
-use Rattle.rle_format.specs.Answer.{Answer, counted, refused, number, told, toldPacked}
+use Rattle.rle_format.specs.Answer.{Answer, counted, refused, number, toAnswer, packedToAnswer}
 
 -- a count is no refusal
-pub not-counted : {r n : ℕ} {X : Type 0} → refused r ≡ counted n → X
-not-counted e = let z : _≡_ {A = ℕ} 0 1 = cc in absurd (omega arith)
+pub refused-not-counted : {r n : ℕ} {X : Type 0} → refused r ≡ counted n → X
+refused-not-counted e = let z : _≡_ {A = ℕ} 0 1 = cc in absurd (omega arith)
 
 -- the refusal that has a number
-abbrev refusal : ℕ → Refusal
-refusal n =
+abbrev refusalWithNumber : ℕ → Refusal
+refusalWithNumber n =
     choose (eqb n 1) ZeroSize
     (choose (eqb n 2) TooLarge
     (choose (eqb n 3) LossLevel
@@ -32,55 +32,55 @@ refusal n =
     (choose (eqb n 11) NotEnoughBytes
     BufferTooSmall))))))))))
 
-refusal-number : (r : Refusal) → refusal (number r) ≡ r
-refusal-number ZeroSize = refl
-refusal-number TooLarge = refl
-refusal-number LossLevel = refl
-refusal-number InvalidUncompressedDataSize = refl
-refusal-number ShortWork = refl
-refusal-number ShortImage = refl
-refusal-number ReadCompressedData = refl
-refusal-number InvalidSegmentHeader = refl
-refusal-number SegmentDoNotFitScanline = refl
-refusal-number ShortPlane = refl
-refusal-number NotEnoughBytes = refl
-refusal-number BufferTooSmall = refl
+refusalWithNumber-number : (r : Refusal) → refusalWithNumber (number r) ≡ r
+refusalWithNumber-number ZeroSize = refl
+refusalWithNumber-number TooLarge = refl
+refusalWithNumber-number LossLevel = refl
+refusalWithNumber-number InvalidUncompressedDataSize = refl
+refusalWithNumber-number ShortWork = refl
+refusalWithNumber-number ShortImage = refl
+refusalWithNumber-number ReadCompressedData = refl
+refusalWithNumber-number InvalidSegmentHeader = refl
+refusalWithNumber-number SegmentDoNotFitScanline = refl
+refusalWithNumber-number ShortPlane = refl
+refusalWithNumber-number NotEnoughBytes = refl
+refusalWithNumber-number BufferTooSmall = refl
 
-pub numbers-few : (r : Refusal) → number r ≤ 12
-numbers-few ZeroSize = omega arith
-numbers-few TooLarge = omega arith
-numbers-few LossLevel = omega arith
-numbers-few InvalidUncompressedDataSize = omega arith
-numbers-few ShortWork = omega arith
-numbers-few ShortImage = omega arith
-numbers-few ReadCompressedData = omega arith
-numbers-few InvalidSegmentHeader = omega arith
-numbers-few SegmentDoNotFitScanline = omega arith
-numbers-few ShortPlane = omega arith
-numbers-few NotEnoughBytes = omega arith
-numbers-few BufferTooSmall = omega arith
+pub number-max : (r : Refusal) → number r ≤ 12
+number-max ZeroSize = omega arith
+number-max TooLarge = omega arith
+number-max LossLevel = omega arith
+number-max InvalidUncompressedDataSize = omega arith
+number-max ShortWork = omega arith
+number-max ShortImage = omega arith
+number-max ReadCompressedData = omega arith
+number-max InvalidSegmentHeader = omega arith
+number-max SegmentDoNotFitScanline = omega arith
+number-max ShortPlane = omega arith
+number-max NotEnoughBytes = omega arith
+number-max BufferTooSmall = omega arith
 
-pub numbers-apart : (r s : Refusal) → number r ≡ number s → r ≡ s
-numbers-apart r s e = sym (refusal-number r) ∙ ap refusal e ∙ refusal-number s
+pub number-injective : (r s : Refusal) → number r ≡ number s → r ≡ s
+number-injective r s e = sym (refusalWithNumber-number r) ∙ ap refusalWithNumber e ∙ refusalWithNumber-number s
 
-abbrev untold : Answer → Unpacked
-untold (counted n) = unpacked.Read n
-untold (refused k) = unpacked.Refused (refusal k)
+abbrev fromAnswer : Answer → Unpacked
+fromAnswer (counted n) = unpacked.Read n
+fromAnswer (refused k) = unpacked.Refused (refusalWithNumber k)
 
-untold-told : (r : Unpacked) → untold (told r) ≡ r
-untold-told (unpacked.Read n) = refl
-untold-told (unpacked.Refused r) = ap (λ (k : Refusal). unpacked.Refused k) (refusal-number r)
+fromAnswer-toAnswer : (r : Unpacked) → fromAnswer (toAnswer r) ≡ r
+fromAnswer-toAnswer (unpacked.Read n) = refl
+fromAnswer-toAnswer (unpacked.Refused r) = ap (λ (k : Refusal). unpacked.Refused k) (refusalWithNumber-number r)
 
-pub told-apart : (r s : Unpacked) → told r ≡ told s → r ≡ s
-told-apart r s e = sym (untold-told r) ∙ ap untold e ∙ untold-told s
+pub toAnswer-injective : (r s : Unpacked) → toAnswer r ≡ toAnswer s → r ≡ s
+toAnswer-injective r s e = sym (fromAnswer-toAnswer r) ∙ ap fromAnswer e ∙ fromAnswer-toAnswer s
 
-abbrev untoldPacked : Answer → Packed
-untoldPacked (counted n) = packed.Written n
-untoldPacked (refused k) = packed.Refused (refusal k)
+abbrev packedFromAnswer : Answer → Packed
+packedFromAnswer (counted n) = packed.Written n
+packedFromAnswer (refused k) = packed.Refused (refusalWithNumber k)
 
-untold-packed : (r : Packed) → untoldPacked (toldPacked r) ≡ r
-untold-packed (packed.Written n) = refl
-untold-packed (packed.Refused r) = ap (λ (k : Refusal). packed.Refused k) (refusal-number r)
+packedFromAnswer-packedToAnswer : (r : Packed) → packedFromAnswer (packedToAnswer r) ≡ r
+packedFromAnswer-packedToAnswer (packed.Written n) = refl
+packedFromAnswer-packedToAnswer (packed.Refused r) = ap (λ (k : Refusal). packed.Refused k) (refusalWithNumber-number r)
 
-pub packed-apart : (r s : Packed) → toldPacked r ≡ toldPacked s → r ≡ s
-packed-apart r s e = sym (untold-packed r) ∙ ap untoldPacked e ∙ untold-packed s
+pub packedToAnswer-injective : (r s : Packed) → packedToAnswer r ≡ packedToAnswer s → r ≡ s
+packedToAnswer-injective r s e = sym (packedFromAnswer-packedToAnswer r) ∙ ap packedFromAnswer e ∙ packedFromAnswer-packedToAnswer s

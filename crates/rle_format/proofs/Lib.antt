@@ -12,10 +12,10 @@ pub mod RowAt
 pub mod SegmentSteps
 pub mod Segments
 pub mod LongRun
-pub mod SegmentsOf
+pub mod SplitSegments
 pub mod RowSegments
-pub mod Reading
+pub mod ReadBack
 pub mod PackingSize
 pub mod Writing
 pub mod PackPlane
-pub mod Head
+pub mod WriteLoop

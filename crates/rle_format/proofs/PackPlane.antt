@@ -1,4 +1,4 @@
--- Packing a plane: the tests before the segments, in their order; and a plane that was packed.
+-- Packing a plane: the checks before the segments, in their order; and a plane that was packed.
 use mathlib.Core.Path.{_≡_, ap, _∙_}
 use mathlib.Core.Logic.{⊎-elim}
 use mathlib.Core.List.{List}
@@ -11,54 +11,54 @@ use Rattle.rle_format.specs.Choice.{choose}
 use Rattle.rle_format.specs.Answer.{counted, refused, Outcome, stop, refuse}
 use Rattle.rle_format.specs.Pack.{planeSegments, packing, writeSegments, packPlane}
 use Rattle.rle_format.proofs.Cases.{le-or-gt, eq-or-ne}
-use Rattle.rle_format.proofs.Outcome.{same-answer}
+use Rattle.rle_format.proofs.Outcome.{answer-cong}
 use Rattle.rle_format.proofs.Writing.{write-all, write-refused}
-use Rattle.rle_format.proofs.PackingSize.{packing-most}
-use Rattle.rle_format.proofs.Sides.{no-width, no-height, too-wide, too-high, in-sides}
+use Rattle.rle_format.proofs.PackingSize.{packing-size-max}
+use Rattle.rle_format.proofs.Sides.{zero-width, zero-height, too-wide, too-high, sides-allowed}
 
 module _ (w h room : ℕ) (samples : List ℕ) where
-  -- what follows the tests of the sides
-  abbrev in-source : Outcome
-  in-source = choose (ltb (length samples) (w * h)) (refuse 11) (writeSegments (planeSegments w h samples) room)
+  -- what follows the checks of the sides
+  abbrev after-sides : Outcome
+  after-sides = choose (ltb (length samples) (w * h)) (refuse 11) (writeSegments (planeSegments w h samples) room)
 
-  pub pack-no-width : w ≡ 0 → packPlane w h room samples ≡ refuse 1
+  pub pack-zero-width : w ≡ 0 → packPlane w h room samples ≡ refuse 1
   unfolding packPlane
-  pack-no-width e = no-width refuse w h in-source e
+  pack-zero-width e = zero-width refuse w h after-sides e
 
   module _ (hw : w ≡ 0 → ⊥) where
-    pub pack-no-height : h ≡ 0 → packPlane w h room samples ≡ refuse 1
+    pub pack-zero-height : h ≡ 0 → packPlane w h room samples ≡ refuse 1
     unfolding packPlane
-    pack-no-height e = no-height refuse w h in-source hw e
+    pack-zero-height e = zero-height refuse w h after-sides hw e
 
     module _ (hh : h ≡ 0 → ⊥) where
-      pub pack-wide : 8192 < w → packPlane w h room samples ≡ refuse 2
+      pub pack-too-wide : 8192 < w → packPlane w h room samples ≡ refuse 2
       unfolding packPlane
-      pack-wide l = too-wide refuse w h in-source hw hh l
+      pack-too-wide l = too-wide refuse w h after-sides hw hh l
 
       module _ (lw : w ≤ 8192) where
-        pub pack-high : 8192 < h → packPlane w h room samples ≡ refuse 2
+        pub pack-too-high : 8192 < h → packPlane w h room samples ≡ refuse 2
         unfolding packPlane
-        pack-high l = too-high refuse w h in-source hw hh lw l
+        pack-too-high l = too-high refuse w h after-sides hw hh lw l
 
         module _ (lh : h ≤ 8192) where
-          pub pack-short : length samples < w * h → packPlane w h room samples ≡ refuse 11
+          pub pack-short-source : length samples < w * h → packPlane w h room samples ≡ refuse 11
           unfolding packPlane
-          pack-short l = in-sides refuse w h in-source hw hh lw lh ∙ simp (lt-ltb (length samples) (w * h) l)
+          pack-short-source l = sides-allowed refuse w h after-sides hw hh lw lh ∙ simp (lt-ltb (length samples) (w * h) l)
 
           pub pack-segments : w * h ≤ length samples → packPlane w h room samples ≡ writeSegments (planeSegments w h samples) room
           unfolding packPlane
-          pack-segments l = in-sides refuse w h in-source hw hh lw lh ∙ simp (le-ltb (length samples) (w * h) l)
+          pack-segments l = sides-allowed refuse w h after-sides hw hh lw lh ∙ simp (le-ltb (length samples) (w * h) l)
 
           -- two bytes a sample are room enough: refusal 12 does not come
-          pub pack-enough : w * h ≤ length samples → 2 * (w * h) ≤ room
+          pub pack-two-bytes-enough : w * h ≤ length samples → 2 * (w * h) ≤ room
               → packPlane w h room samples ≡ record { written = packing w h samples; answer = counted (length (packing w h samples)) }
           unfolding packing
-          pack-enough l enough = pack-segments l ∙ write-all (planeSegments w h samples) room (omega (arith, packing-most w h samples))
+          pack-two-bytes-enough l enough = pack-segments l ∙ write-all (planeSegments w h samples) room (omega (arith, packing-size-max w h samples))
 
 -- ---- a plane that was packed
 
--- it passed the tests, and all its packing was written and counted
-pub record PackedWhole (w h room : ℕ) (samples : List ℕ) (n : ℕ) : Type 0 where
+-- it passed the checks, and all its packing was written and counted
+pub record PackedComplete (w h room : ℕ) (samples : List ℕ) (n : ℕ) : Type 0 where
   pub wide : (1 ≤ w) × (w ≤ 8192)
   pub high : (1 ≤ h) × (h ≤ 8192)
   pub enough : w * h ≤ length samples
@@ -72,16 +72,16 @@ module _ (w h room : ℕ) (samples : List ℕ) (n : ℕ) (e : packPlane w h room
 
   at-entry : {X : Type 0} (k : ℕ) → packPlane w h room samples ≡ refuse k → X
   unfolding stop
-  at-entry k r = not-refused k (same-answer r)
+  at-entry k r = not-refused k (answer-cong r)
 
-  written-whole : (w ≡ 0 → ⊥) → (h ≡ 0 → ⊥) → w ≤ 8192 → h ≤ 8192 → w * h ≤ length samples → packPlane w h room samples ≡ writeSegments (planeSegments w h samples) room
-      → PackedWhole w h room samples n
+  written-complete : (w ≡ 0 → ⊥) → (h ≡ 0 → ⊥) → w ≤ 8192 → h ≤ 8192 → w * h ≤ length samples → packPlane w h room samples ≡ writeSegments (planeSegments w h samples) room
+      → PackedComplete w h room samples n
   unfolding packing
-  written-whole hw hh lw lh l is =
+  written-complete hw hh lw lh l is =
       ⊎-elim
       (λ (fits : length (packing w h samples) ≤ room).
       let all = is ∙ write-all (planeSegments w h samples) room fits in
-      let size : n ≡ length (packing w h samples) = cc (same-answer all) in
+      let size : n ≡ length (packing w h samples) = cc (answer-cong all) in
       record {
         wide = (omega arith, lw);
         high = (omega arith, lh);
@@ -90,25 +90,25 @@ module _ (w h room : ℕ) (samples : List ℕ) (n : ℕ) (e : packPlane w h room
         fits = omega arith;
         whole = ap (λ (o : Outcome). o .written) all;
       })
-      (λ (short : room < length (packing w h samples)). not-refused 12 (same-answer is ∙ write-refused (planeSegments w h samples) room short))
+      (λ (short : room < length (packing w h samples)). not-refused 12 (answer-cong is ∙ write-refused (planeSegments w h samples) room short))
       (le-or-gt (length (packing w h samples)) room)
 
-  pub packed-whole : PackedWhole w h room samples n
-  packed-whole =
-      ⊎-elim (λ (z : w ≡ 0). at-entry 1 (pack-no-width w h room samples z))
+  pub packed-complete : PackedComplete w h room samples n
+  packed-complete =
+      ⊎-elim (λ (z : w ≡ 0). at-entry 1 (pack-zero-width w h room samples z))
       (λ (hw : w ≡ 0 → ⊥).
-      ⊎-elim (λ (z : h ≡ 0). at-entry 1 (pack-no-height w h room samples hw z))
+      ⊎-elim (λ (z : h ≡ 0). at-entry 1 (pack-zero-height w h room samples hw z))
       (λ (hh : h ≡ 0 → ⊥).
       ⊎-elim
       (λ (lw : w ≤ 8192).
       ⊎-elim
       (λ (lh : h ≤ 8192).
-      ⊎-elim (λ (l : w * h ≤ length samples). written-whole hw hh lw lh l (pack-segments w h room samples hw hh lw lh l))
-      (λ (l : length samples < w * h). at-entry 11 (pack-short w h room samples hw hh lw lh l))
+      ⊎-elim (λ (l : w * h ≤ length samples). written-complete hw hh lw lh l (pack-segments w h room samples hw hh lw lh l))
+      (λ (l : length samples < w * h). at-entry 11 (pack-short-source w h room samples hw hh lw lh l))
       (le-or-gt (w * h) (length samples)))
-      (λ (l : 8192 < h). at-entry 2 (pack-high w h room samples hw hh lw l))
+      (λ (l : 8192 < h). at-entry 2 (pack-too-high w h room samples hw hh lw l))
       (le-or-gt h 8192))
-      (λ (l : 8192 < w). at-entry 2 (pack-wide w h room samples hw hh l))
+      (λ (l : 8192 < w). at-entry 2 (pack-too-wide w h room samples hw hh l))
       (le-or-gt w 8192))
       (eq-or-ne h 0))
       (eq-or-ne w 0)

@@ -1,4 +1,4 @@
--- Reading a segment: what stands at a position of the body, and what is known of a segment that was read.
+-- Reading a segment: what is at an index of the body, and what is known of a segment that was read.
 use mathlib.Core.Path.{_≡_, refl, sym, ap, _∙_}
 use mathlib.Core.Bool.{Bool, true, false}
 use mathlib.Core.Logic.{⊎-elim}
@@ -12,129 +12,129 @@ use lib.ListN.{length, take, drop, getD, length-append, length-drop, length-repl
 use lib.Seq.{drop-cons, getD-drop, length-take-le}
 use Rattle.rle_format.specs.Choice.{choose}
 use Rattle.rle_format.proofs.Cases.{eq-or-ne}
-use Rattle.rle_format.specs.Segment.{Segment, lastOf, values, count, size, rawCount, runLength, segment, no-segment, readSegment}
+use Rattle.rle_format.specs.Segment.{Segment, lastOr, segmentValues, valueCount, segmentSize, rawCount, runLength, segment, refused-segment, readSegment}
 
 -- what a control byte says, by its low four bits
 module _ (c : ℕ) where
-  pub says-one : c % 16 ≡ 1 → (0 ≡ rawCount c) × (16 + c / 16 ≡ runLength c)
+  pub control-run-1 : c % 16 ≡ 1 → (0 ≡ rawCount c) × (16 + c / 16 ≡ runLength c)
   unfolding rawCount runLength
-  says-one e = rw (eq-eqb (c % 16) 1 e) (refl, refl)
+  control-run-1 e = rw (eq-eqb (c % 16) 1 e) (refl, refl)
 
   module _ (not-one : c % 16 ≡ 1 → ⊥) where
-    pub says-two : c % 16 ≡ 2 → (0 ≡ rawCount c) × (32 + c / 16 ≡ runLength c)
+    pub control-run-2 : c % 16 ≡ 2 → (0 ≡ rawCount c) × (32 + c / 16 ≡ runLength c)
     unfolding rawCount runLength
-    says-two e = rw (ne-eqb (c % 16) 1 not-one, eq-eqb (c % 16) 2 e) (refl, refl)
+    control-run-2 e = rw (ne-eqb (c % 16) 1 not-one, eq-eqb (c % 16) 2 e) (refl, refl)
 
-    pub says-plain : (c % 16 ≡ 2 → ⊥) → (c / 16 ≡ rawCount c) × (c % 16 ≡ runLength c)
+    pub control-plain : (c % 16 ≡ 2 → ⊥) → (c / 16 ≡ rawCount c) × (c % 16 ≡ runLength c)
     unfolding rawCount runLength
-    says-plain not-two = rw (ne-eqb (c % 16) 1 not-one, ne-eqb (c % 16) 2 not-two) (refl, refl)
+    control-plain not-two = rw (ne-eqb (c % 16) 1 not-one, ne-eqb (c % 16) 2 not-two) (refl, refl)
 
--- a control byte that is not 0 stands for one value at least, and for 47 at most: "The largest is 47"; 15 of them at most are raw bytes
-pub record Stands (c : ℕ) : Type 0 where
+-- a control byte that is not 0 stands for one value at least, and for 47 at most; 15 of them at most are raw bytes
+pub record ControlBounds (c : ℕ) : Type 0 where
   pub some : (c ≡ 0 → ⊥) → 1 ≤ rawCount c + runLength c
   pub few : c < 256 → rawCount c + runLength c ≤ 47
   pub raw : c < 256 → rawCount c ≤ 15
 
-pub stands : (c : ℕ) → Stands c
-stands c =
-    ⊎-elim (λ (one : c % 16 ≡ 1). let s = says-one c one in record { some = λ z. omega arith; few = λ h. omega arith; raw = λ h. omega arith })
+pub control-bounds : (c : ℕ) → ControlBounds c
+control-bounds c =
+    ⊎-elim (λ (one : c % 16 ≡ 1). let s = control-run-1 c one in record { some = λ z. omega arith; few = λ h. omega arith; raw = λ h. omega arith })
     (λ (not-one : c % 16 ≡ 1 → ⊥).
-    ⊎-elim (λ (two : c % 16 ≡ 2). let s = says-two c not-one two in record { some = λ z. omega arith; few = λ h. omega arith; raw = λ h. omega arith })
-    (λ (not-two : c % 16 ≡ 2 → ⊥). let s = says-plain c not-one not-two in record { some = λ z. omega arith; few = λ h. omega arith; raw = λ h. omega arith })
+    ⊎-elim (λ (two : c % 16 ≡ 2). let s = control-run-2 c not-one two in record { some = λ z. omega arith; few = λ h. omega arith; raw = λ h. omega arith })
+    (λ (not-two : c % 16 ≡ 2 → ⊥). let s = control-plain c not-one not-two in record { some = λ z. omega arith; few = λ h. omega arith; raw = λ h. omega arith })
     (eq-or-ne (c % 16) 2))
     (eq-or-ne (c % 16) 1)
 
 -- what is known of a segment that was read: it lies within the body, its raw bytes stand behind the control byte, and it
 -- stands for one value at least
-pub record Seen (body : List ℕ) (s : Segment) : Type 0 where
-  pub fits : size s ≤ length body
+pub record SegmentFacts (body : List ℕ) (s : Segment) : Type 0 where
+  pub fits : segmentSize s ≤ length body
   pub raw-is : s .raw ≡ take (length (s .raw)) (drop 1 body)
-  pub some : 1 ≤ count s
+  pub some : 1 ≤ valueCount s
 
 -- a refusal is no segment
-pub no-read : {r : ℕ} {s : Segment} {X : Type 0} → no-segment r ≡ segment s → X
-no-read e = let z : _≡_ {A = ℕ} 0 1 = cc in absurd (omega arith)
+pub refused-not-segment : {r : ℕ} {s : Segment} {X : Type 0} → refused-segment r ≡ segment s → X
+refused-not-segment e = let z : _≡_ {A = ℕ} 0 1 = cc in absurd (omega arith)
 
-pub seen : (body : List ℕ) (s : Segment) → readSegment body ≡ segment s → Seen body s
+pub segment-facts : (body : List ℕ) (s : Segment) → readSegment body ≡ segment s → SegmentFacts body s
 unfolding readSegment
-seen [] s e = no-read e
-seen (c ∷ rest) s e = go (eqb c 0) (ltb (length rest) (rawCount c)) refl refl e
+segment-facts [] s e = refused-not-segment e
+segment-facts (c ∷ rest) s e = go (eqb c 0) (ltb (length rest) (rawCount c)) refl refl e
   where
     it : Segment
     it = record { raw = take (rawCount c) rest; run = runLength c }
 
     go : (z t : Bool) → eqb c 0 ≡ z → ltb (length rest) (rawCount c) ≡ t
-        → choose z (no-segment 8) (choose t (no-segment 7) (segment it)) ≡ segment s
-        → Seen (c ∷ rest) s
-    go true t ez et e = no-read e
-    go false true ez et e = no-read e
+        → choose z (refused-segment 8) (choose t (refused-segment 7) (segment it)) ≡ segment s
+        → SegmentFacts (c ∷ rest) s
+    go true t ez et e = refused-not-segment e
+    go false true ez et e = refused-not-segment e
     go false false ez et e =
         let same : it ≡ s = cc in
         let there : rawCount c ≤ length rest = ltb-false (length rest) (rawCount c) et in
         let n : length (take (rawCount c) rest) ≡ rawCount c = length-take-le (rawCount c) rest there in
-        let of-it : Seen (c ∷ rest) it = record {
+        let of-it : SegmentFacts (c ∷ rest) it = record {
           fits = omega arith;
           raw-is = ap (λ (k : ℕ). take k rest) (sym n);
-          some = omega (arith, stands c .some (eqb-false c 0 ez));
+          some = omega (arith, control-bounds c .some (eqb-false c 0 ez));
         } in
         rw same at of-it
 
 -- a segment is refused by 7 or 8
-pub segment-numbers : (body : List ℕ) (r : ℕ) → readSegment body ≡ no-segment r → (7 ≤ r) × (r ≤ 9)
+pub segment-refusals : (body : List ℕ) (r : ℕ) → readSegment body ≡ refused-segment r → (7 ≤ r) × (r ≤ 9)
 unfolding readSegment
-segment-numbers [] r e = let is : 7 ≡ r = cc in (omega arith, omega arith)
-segment-numbers (c ∷ rest) r e = go (eqb c 0) (ltb (length rest) (rawCount c)) e
+segment-refusals [] r e = let is : 7 ≡ r = cc in (omega arith, omega arith)
+segment-refusals (c ∷ rest) r e = go (eqb c 0) (ltb (length rest) (rawCount c)) e
   where
     go : (z t : Bool)
-        → choose z (no-segment 8) (choose t (no-segment 7) (segment (record { raw = take (rawCount c) rest; run = runLength c }))) ≡ no-segment r
+        → choose z (refused-segment 8) (choose t (refused-segment 7) (segment (record { raw = take (rawCount c) rest; run = runLength c }))) ≡ refused-segment r
         → (7 ≤ r) × (r ≤ 9)
     go true t e = let is : 8 ≡ r = cc in (omega arith, omega arith)
     go false true e = let is : 7 ≡ r = cc in (omega arith, omega arith)
-    go false false e = no-read (sym e)
+    go false false e = refused-not-segment (sym e)
 
--- ---- what a position of the body finds
+-- ---- what is at an index of the body
 
--- the segment that the control byte at a position says
+-- the segment that the control byte at an index says
 abbrev pub segmentAt : (s : List ℕ) (at : ℕ) → Segment
 segmentAt s at = record { raw = take (rawCount (getD s at 0)) (drop (at + 1) s); run = runLength (getD s at 0) }
 
 module _ (s : List ℕ) (at : ℕ) where
-  pub segment-end : length s ≤ at → readSegment (drop at s) ≡ no-segment 7
+  pub read-at-end : length s ≤ at → readSegment (drop at s) ≡ refused-segment 7
   unfolding readSegment
-  segment-end h = rw (drop-of-length-le s h)
+  read-at-end h = rw (drop-of-length-le s h)
 
   module _ (h : at < length s) where
-    pub segment-zero : getD s at 0 ≡ 0 → readSegment (drop at s) ≡ no-segment 8
+    pub read-zero-control : getD s at 0 ≡ 0 → readSegment (drop at s) ≡ refused-segment 8
     unfolding readSegment
-    segment-zero z = rw (drop-cons s at 0 h, eq-eqb (getD s at 0) 0 z)
+    read-zero-control z = rw (drop-cons s at 0 h, eq-eqb (getD s at 0) 0 z)
 
-    pub segment-short : (getD s at 0 ≡ 0 → ⊥) → length s - at - 1 < rawCount (getD s at 0) → readSegment (drop at s) ≡ no-segment 7
+    pub read-missing-raw : (getD s at 0 ≡ 0 → ⊥) → length s - at - 1 < rawCount (getD s at 0) → readSegment (drop at s) ≡ refused-segment 7
     unfolding readSegment
-    segment-short z l =
+    read-missing-raw z l =
         let l′ : length (drop (suc at) s) < rawCount (getD s at 0) = simp length-drop (omega arith) in
         rw (drop-cons s at 0 h, ne-eqb (getD s at 0) 0 z, lt-ltb (length (drop (suc at) s)) (rawCount (getD s at 0)) l′)
 
-    pub segment-read : (getD s at 0 ≡ 0 → ⊥) → rawCount (getD s at 0) ≤ length s - at - 1 → readSegment (drop at s) ≡ segment (segmentAt s at)
+    pub read-complete : (getD s at 0 ≡ 0 → ⊥) → rawCount (getD s at 0) ≤ length s - at - 1 → readSegment (drop at s) ≡ segment (segmentAt s at)
     unfolding readSegment
-    segment-read z l =
+    read-complete z l =
         let l′ : rawCount (getD s at 0) ≤ length (drop (suc at) s) = simp length-drop (omega arith) in
         rw (drop-cons s at 0 h, ne-eqb (getD s at 0) 0 z, le-ltb (length (drop (suc at) s)) (rawCount (getD s at 0)) l′, add-one)
 
 -- ---- the values of a segment
 
-pub length-values : (last : ℕ) (s : Segment) → length (values last s) ≡ count s
-length-values last s = simp (length-append, length-replicate)
+pub length-segmentValues : (last : ℕ) (s : Segment) → length (segmentValues last s) ≡ valueCount s
+length-segmentValues last s = simp (length-append, length-replicate)
 
-pub last-take : (s : List ℕ) (raw last : ℕ) → raw < length s → lastOf last (take (suc raw) s) ≡ getD s raw 0
-last-take [] raw last h = absurd (omega arith)
-last-take (x ∷ s) zero last h = refl
-last-take (x ∷ s) (suc raw) last h = last-take s raw x (omega arith)
+pub lastOr-take : (s : List ℕ) (raw last : ℕ) → raw < length s → lastOr last (take (suc raw) s) ≡ getD s raw 0
+lastOr-take [] raw last h = absurd (omega arith)
+lastOr-take (x ∷ s) zero last h = refl
+lastOr-take (x ∷ s) (suc raw) last h = lastOr-take s raw x (omega arith)
 
--- the last of the raw bytes behind the control byte at a position
-pub last-at : (s : List ℕ) (at raw last : ℕ) → (raw ≡ 0 → ⊥) → at + raw < length s → lastOf last (take raw (drop (at + 1) s)) ≡ getD s (at + raw) 0
-last-at s at zero last z h = absurd (z refl)
-last-at s at (suc raw) last z h =
-    last-take (drop (at + 1) s) raw last (simp length-drop (omega arith)) ∙ getD-drop (at + 1) s raw 0 ∙ ap (λ (k : ℕ). getD s k 0) (sum at raw)
+-- the last of the raw bytes behind the control byte at an index
+pub lastOr-raw : (s : List ℕ) (at raw last : ℕ) → (raw ≡ 0 → ⊥) → at + raw < length s → lastOr last (take raw (drop (at + 1) s)) ≡ getD s (at + raw) 0
+lastOr-raw s at zero last z h = absurd (z refl)
+lastOr-raw s at (suc raw) last z h =
+    lastOr-take (drop (at + 1) s) raw last (simp length-drop (omega arith)) ∙ getD-drop (at + 1) s raw 0 ∙ ap (λ (k : ℕ). getD s k 0) (sum at raw)
   where
     sum : (at raw : ℕ) → at + 1 + raw ≡ at + suc raw
     sum at raw = omega arith

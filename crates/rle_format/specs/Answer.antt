@@ -1,4 +1,4 @@
--- Answers in the numbers of document 01 ("Where each refusal is checked"), and what the code's enums say in them.
+-- Answers and outcomes of calls, with refusals by number (FORMAT 8), and the conversion of the code's enums to them.
 use Prim.Native.Nat.{ℕ, _+_}
 use mathlib.Core.List.{List, [], _++_}
 use Rattle.rle_format.specs.declared.Refusal.{Refusal}
@@ -8,34 +8,34 @@ use Rattle.rle_format.specs.declared.Unpacked.the-variants as unpacked
 use Rattle.rle_format.specs.declared.Packed.{Packed}
 use Rattle.rle_format.specs.declared.Packed.the-variants as packed
 
--- a count of bytes, or the number of a refusal: "A refusal returns its number alone"
+-- a number of bytes, or the number of a refusal (FORMAT 8.4)
 pub data Answer : Type 0 where
   counted : ℕ → Answer
   refused : (number : ℕ) → Answer
 
--- what a call does: what it writes, from the first place of its slice on, and what it answers
+-- what a call does: the bytes that it writes, from the start of its slice, and its answer
 pub record Outcome : Type 0 where
   pub written : List ℕ
   pub answer : Answer
 
--- nothing written, and an answer
+-- writes nothing
 unfoldable pub stop : Answer → Outcome
 stop a = record { written = []; answer = a }
 
--- a refusal before anything is written
+-- refuses before anything is written
 abbrev pub refuse : (number : ℕ) → Outcome
 refuse r = stop (refused r)
 
--- n bytes more; a refusal stays as it is
-abbrev pub more : ℕ → Answer → Answer
-more n (counted k) = counted (n + k)
-more n (refused r) = refused r
+-- adds n to a number of bytes; a refusal stays as it is
+abbrev pub addCount : ℕ → Answer → Answer
+addCount n (counted k) = counted (n + k)
+addCount n (refused r) = refused r
 
--- vs written and n bytes read, and then the outcome o
-unfoldable pub onto : List ℕ → ℕ → Outcome → Outcome
-onto vs n o = record { written = vs ++ o .written; answer = more n (o .answer) }
+-- the outcome of a call that first writes vs and counts n bytes, and then does o
+unfoldable pub prepend : List ℕ → ℕ → Outcome → Outcome
+prepend vs n o = record { written = vs ++ o .written; answer = addCount n (o .answer) }
 
--- the number of each refusal: the table's second column
+-- FORMAT 8.1
 abbrev pub number : Refusal → ℕ
 number ZeroSize = 1
 number TooLarge = 2
@@ -50,12 +50,12 @@ number ShortPlane = 10
 number NotEnoughBytes = 11
 number BufferTooSmall = 12
 
--- the answer of a row and of a plane that are unpacked
-abbrev pub told : Unpacked → Answer
-told (unpacked.Read n) = counted n
-told (unpacked.Refused r) = refused (number r)
+-- the answer of unpacking a row or a plane
+abbrev pub toAnswer : Unpacked → Answer
+toAnswer (unpacked.Read n) = counted n
+toAnswer (unpacked.Refused r) = refused (number r)
 
--- the answer of segments, a row and a plane that are packed
-abbrev pub toldPacked : Packed → Answer
-toldPacked (packed.Written n) = counted n
-toldPacked (packed.Refused r) = refused (number r)
+-- the answer of packing segments, a row or a plane
+abbrev pub packedToAnswer : Packed → Answer
+packedToAnswer (packed.Written n) = counted n
+packedToAnswer (packed.Refused r) = refused (number r)

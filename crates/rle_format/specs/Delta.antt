@@ -1,37 +1,36 @@
--- A row's coded values: the first row by value, a later one by its difference from the row above
--- (document 01, "A plane and its rows", first paragraph; MS-RDPEGDI 3.1.9.2).
+-- Delta coding of rows (FORMAT 4.2, 4.3; MS-RDPEGDI 3.1.9.2). Document 01's term for a row as it is coded: coded values.
 use Prim.Native.Nat.{ℕ, _+_, _*_, _-_, _/_, _%_}
 use mathlib.Core.List.{List, [], _∷_}
 use mathlib.Core.Option.{Option, none, some}
 use lib.Dec.{ltb, eqb}
 use Rattle.rle_format.specs.Choice.{choose}
 
--- d: "the lower byte minus the upper, modulo 256". Right for every upper value up to 256, and so for all bytes
+-- d of FORMAT 4.2: value − above, modulo 256. Subtraction of naturals stops at 0, so 256 is added first
 unfoldable pub difference : (above value : ℕ) → ℕ
 difference above value = (value + 256 - above) % 256
 
--- "the code is 2 × d if d is under 128, else 2 × (255 − d) + 1"
+-- the code of d
 unfoldable pub deltaCode : (above value : ℕ) → ℕ
 deltaCode above value =
     choose (ltb (difference above value) 128)
     (2 * difference above value)
     (2 * (255 - difference above value) + 1)
 
--- "code c gives d = c/2 if even, else 255 − (c − 1)/2": the d of a code
-unfoldable pub differenceOf : (code : ℕ) → ℕ
-differenceOf code = choose (eqb (code % 2) 0) (code / 2) (255 - (code - 1) / 2)
+-- d from its code
+unfoldable pub differenceFromCode : (code : ℕ) → ℕ
+differenceFromCode code = choose (eqb (code % 2) 0) (code / 2) (255 - (code - 1) / 2)
 
--- ".. and d is added to the byte above modulo 256"
-unfoldable pub undelta : (above code : ℕ) → ℕ
-undelta above code = (above + differenceOf code) % 256
+-- a sample from its code and the sample above
+unfoldable pub undoDelta : (above code : ℕ) → ℕ
+undoDelta above code = (above + differenceFromCode code) % 256
 
--- f of each pair of values that stand in one column
-abbrev pub columns : (ℕ → ℕ → ℕ) → List ℕ → List ℕ → List ℕ
-columns f [] ys = []
-columns f (x ∷ xs) [] = []
-columns f (x ∷ xs) (y ∷ ys) = f x y ∷ columns f xs ys
+-- f of the values at the same index of two lists
+abbrev pub zipWith : (ℕ → ℕ → ℕ) → List ℕ → List ℕ → List ℕ
+zipWith f [] ys = []
+zipWith f (x ∷ xs) [] = []
+zipWith f (x ∷ xs) (y ∷ ys) = f x y ∷ zipWith f xs ys
 
--- the samples of a row from its coded values: "The first row is coded by value", a later one is undone by the row above
+-- the samples of a row from its coded values; the first row, which has none above it, is not delta coded
 abbrev pub restoreRow : (above : Option (List ℕ)) (codes : List ℕ) → List ℕ
 restoreRow none codes = codes
-restoreRow (some above) codes = columns undelta above codes
+restoreRow (some above) codes = zipWith undoDelta above codes

@@ -1,13 +1,13 @@
--- A slice after a call. Every contract of a function that writes a slice uses one of these two words, so that the bytes that
--- are not written are untouched (document 01, "Where each refusal is checked": "the rest of the plane is untouched").
+-- A slice after a call. The contract of every function that writes a slice equates it with one of these two, and so says of each byte
+-- either what it is or that it is unchanged.
 use Prim.Native.Nat.{ℕ, _+_}
 use mathlib.Core.List.{List, _++_}
 use lib.ListN.{length, take, drop}
 
--- the slice d, its first places overwritten by vs
-unfoldable pub over : List ℕ → List ℕ → List ℕ
-over d vs = vs ++ drop (length vs) d
+-- the slice d with its first bytes replaced by vs
+unfoldable pub overwrite : List ℕ → List ℕ → List ℕ
+overwrite d vs = vs ++ drop (length vs) d
 
--- the slice d, its places from `at` on overwritten by vs
-unfoldable pub putAt : List ℕ → ℕ → List ℕ → List ℕ
-putAt d at vs = take at d ++ (vs ++ drop (at + length vs) d)
+-- the slice d with its bytes from index `at` on replaced by vs
+unfoldable pub writeAt : List ℕ → ℕ → List ℕ → List ℕ
+writeAt d at vs = take at d ++ (vs ++ drop (at + length vs) d)

@@ -1,12 +1,12 @@
-// The RLE plane format of RDP 6.0 pictures (MS-RDPEGDI 2.2.2.5.1.2, 3.1.9.2): the types of the answers.
-// What is right is said in specs/; the decoder's and the encoder's contracts cite it.
+// RLE planes (FORMAT 3 to 5; MS-RDPEGDI 2.2.2.5.1.2, 3.1.9.2): the types of the answers. The definitions that the contracts of decoder and
+// encoder cite are in specs/.
 ghost use mathlib.Core.Path.{_≡_};
 ghost use Rattle.rle_format.specs.Answer.{number};
 
-// The widest row and the highest plane.
+// The largest width and the largest height.
 pub const MAX_SIDE: usize = 8192;
 
-// Why a call is refused. specs/Answer.antt gives each its number in document 01; the names are the Rust's where it has one.
+// Why a call is refused (FORMAT 8.1). The names are IronRDP's where it has one.
 pub enum Refusal {
     ZeroSize,
     TooLarge,
@@ -22,19 +22,19 @@ pub enum Refusal {
     BufferTooSmall,
 }
 
-// The answer of a row and of a plane that are unpacked: the bytes read, or the refusal.
+// The answer of unpacking a row or a plane: the number of bytes read, or the refusal.
 pub enum Unpacked {
     Read(usize),
     Refused(Refusal),
 }
 
-// The answer of a plane that is packed: the bytes written, or the refusal.
+// The answer of packing a plane: the number of bytes written, or the refusal.
 pub enum Packed {
     Written(usize),
     Refused(Refusal),
 }
 
-// The number of a refusal in document 01's table.
+// The number of a refusal.
 pub fn number_of(refusal: Refusal) -> u8
     ensures { λ r. ⌜ r ≡ number refusal ⌝ }
 {

@@ -1,4 +1,4 @@
--- Demand 3 determines the destination and the answer, for every m from 0 to n.
+-- The prefix theorem determines the destination and the answer, for every m from 0 to n.
 use mathlib.Core.Path.{_≡_, sym, _∙_}
 use mathlib.Core.List.{List}
 use mathlib.Core.Logic.{⊎-elim}
@@ -8,11 +8,11 @@ use lib.ListN.{length}
 use Rattle.rle_format.specs.Answer.{Answer}
 use Rattle.rle_format.specs.Pack.{packing}
 use Rattle.rle_format.proofs.Cases.{le-or-gt}
-use Rattle.rle_round_trip.specs.Demand.{Demand3}
+use Rattle.rle_round_trip.specs.Prefix.{PrefixResult}
 
-pub determined : (width height : ℕ) (samples dst : List ℕ) (m : ℕ) (left other : List ℕ) (a b : Answer) → m ≤ length (packing width height samples)
-    → Demand3 width height samples dst m left a → Demand3 width height samples dst m other b → (left ≡ other) × (a ≡ b)
-determined width height samples dst m left other a b most p q =
+pub prefix-determined : (width height : ℕ) (samples dst : List ℕ) (m : ℕ) (left other : List ℕ) (a b : Answer) → m ≤ length (packing width height samples)
+    → PrefixResult width height samples dst m left a → PrefixResult width height samples dst m other b → (left ≡ other) × (a ≡ b)
+prefix-determined width height samples dst m left other a b most p q =
     ⊎-elim
     (λ (h : length (packing width height samples) ≤ m).
     let e : m ≡ length (packing width height samples) = omega arith in

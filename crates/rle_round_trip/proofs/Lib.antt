@@ -3,7 +3,7 @@ pub mod Row
 pub mod Samples
 pub mod Packing
 pub mod Rows
-pub mod Taken
+pub mod Prefix
 pub mod Theorem
 pub mod Determined
-pub mod Trip
+pub mod RoundTripResult

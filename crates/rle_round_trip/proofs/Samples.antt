@@ -7,22 +7,22 @@ use native.Mathlib.Nat.{suc-mul}
 use native.Mathlib.Omega.{arith}
 use lib.ListN.{length, take, drop, getD, length-take, length-drop}
 use lib.Seq.{getD-drop}
-use Rattle.rle_format.specs.Delta.{deltaCode, undelta, columns, restoreRow}
+use Rattle.rle_format.specs.Delta.{deltaCode, undoDelta, zipWith, restoreRow}
 use Rattle.rle_format.specs.Pack.{rowAt, codesAt}
-use Rattle.rle_format.proofs.Delta.{undelta-deltaCode, length-columns}
+use Rattle.rle_format.proofs.Delta.{undoDelta-deltaCode, length-zipWith}
 
 -- the row above row r, if there is one
 abbrev pub aboveAt : (width : ℕ) (samples : List ℕ) (r : ℕ) → Option (List ℕ)
 aboveAt width samples zero = none
 aboveAt width samples (suc r) = some (rowAt width samples r)
 
-columns-back : (above row : List ℕ) → length above ≡ length row → ((i : ℕ) → getD above i 0 < 256) → ((i : ℕ) → getD row i 0 < 256)
-    → columns undelta above (columns deltaCode above row) ≡ row
-columns-back [] [] e h k = refl
-columns-back [] (y ∷ ys) e h k = absurd (omega arith)
-columns-back (x ∷ xs) [] e h k = refl
-columns-back (x ∷ xs) (y ∷ ys) e h k =
-    ap₂ {C = List ℕ} (λ v vs. v ∷ vs) (undelta-deltaCode x y (h 0) (k 0)) (columns-back xs ys (omega arith) (λ i. h (suc i)) (λ i. k (suc i)))
+zipWith-restores : (above row : List ℕ) → length above ≡ length row → ((i : ℕ) → getD above i 0 < 256) → ((i : ℕ) → getD row i 0 < 256)
+    → zipWith undoDelta above (zipWith deltaCode above row) ≡ row
+zipWith-restores [] [] e h k = refl
+zipWith-restores [] (y ∷ ys) e h k = absurd (omega arith)
+zipWith-restores (x ∷ xs) [] e h k = refl
+zipWith-restores (x ∷ xs) (y ∷ ys) e h k =
+    ap₂ {C = List ℕ} (λ v vs. v ∷ vs) (undoDelta-deltaCode x y (h 0) (k 0)) (zipWith-restores xs ys (omega arith) (λ i. h (suc i)) (λ i. k (suc i)))
 
 take-bytes : (n : ℕ) (l : List ℕ) → ((i : ℕ) → getD l i 0 < 256) → (i : ℕ) → getD (take n l) i 0 < 256
 take-bytes zero l h i = omega arith
@@ -41,7 +41,7 @@ module _ (width : ℕ) (samples : List ℕ) where
   length-codesAt (suc r) h =
       let upper = length-rowAt r (omega (arith, suc-mul (suc r) width)) in
       let lower = length-rowAt (suc r) h in
-      length-columns deltaCode (rowAt width samples r) (rowAt width samples (suc r)) (upper ∙ sym lower) ∙ lower
+      length-zipWith deltaCode (rowAt width samples r) (rowAt width samples (suc r)) (upper ∙ sym lower) ∙ lower
 
   module _ (are-bytes : (i : ℕ) → getD samples i 0 < 256) where
     rowAt-bytes : (r i : ℕ) → getD (rowAt width samples r) i 0 < 256
@@ -54,4 +54,4 @@ module _ (width : ℕ) (samples : List ℕ) where
     restore-codes zero h = refl
     restore-codes (suc r) h =
         let upper = length-rowAt r (omega (arith, suc-mul (suc r) width)) in
-        columns-back (rowAt width samples r) (rowAt width samples (suc r)) (upper ∙ sym (length-rowAt (suc r) h)) (rowAt-bytes r) (rowAt-bytes (suc r))
+        zipWith-restores (rowAt width samples r) (rowAt width samples (suc r)) (upper ∙ sym (length-rowAt (suc r) h)) (rowAt-bytes r) (rowAt-bytes (suc r))

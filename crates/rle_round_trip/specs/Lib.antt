@@ -1,3 +1,3 @@
-pub mod Demand
+pub mod Prefix
 pub mod Claim
-pub mod Trip
+pub mod RoundTripResult

@@ -1,4 +1,4 @@
--- The scan of a row by places in it. The raw values that wait stand from `start` to `last`, the value after them stands at `last` and
+-- The scan of a row by places in it. The raw values that are pending stand from `start` to `last`, the value after them stands at `last` and
 -- is repeated from there up to i.
 use mathlib.Core.Path.{_≡_, refl, sym, ap, _∙_}
 use mathlib.Core.Logic.{⊎-elim}
@@ -10,14 +10,14 @@ use borrow.Author.Tests.{le-leb, lt-leb}
 use lib.ListN.{length, getD, take, drop, replicate, length-take, length-drop, length-replicate, getD-replicate, drop-of-length-le}
 use lib.Seq.{drop-cons, drop-drop, take-add, take-suc, take-all, getD-take, getD-drop, ext-getD}
 use Rattle.rle_format.specs.Segment.{Segment}
-use Rattle.rle_format.specs.Pack.{segmentsOf, segmentsFrom, rowSegments}
-use Rattle.rle_scanline_encoder.specs.RowEnd.{rowEnd}
+use Rattle.rle_format.specs.Pack.{splitSegments, scanSegments, rowSegments}
+use Rattle.rle_scanline_encoder.specs.RowEnd.{rowEndSegments}
 use Rattle.rle_format.proofs.Cases.{le-or-gt}
-use Rattle.rle_format.proofs.SegmentSteps.{from-same, from-ends, from-joins, from-closed-run, from-closed-raw}
+use Rattle.rle_format.proofs.SegmentSteps.{scanSegments-repeat, scanSegments-close, scanSegments-join, scanSegments-end-run, scanSegments-end-raw}
 
 -- the segments that are still to be written
 unfoldable pub scan : (codes : List ℕ) (start last i : ℕ) → List Segment
-scan codes start last i = segmentsFrom (take (last - start) (drop start codes)) (getD codes last 0) (i - last - 1) (drop i codes)
+scan codes start last i = scanSegments (take (last - start) (drop start codes)) (getD codes last 0) (i - last - 1) (drop i codes)
 
 pub record Scanned (codes : List ℕ) (start last i : ℕ) : Type 0 where
   pub order : start ≤ last
@@ -27,13 +27,13 @@ pub record Scanned (codes : List ℕ) (start last i : ℕ) : Type 0 where
 
 -- ---- at the row's start
 
-pub scan-begins : (codes : List ℕ) → 1 ≤ length codes → rowSegments codes ≡ scan codes 0 0 1
+pub scan-start : (codes : List ℕ) → 1 ≤ length codes → rowSegments codes ≡ scan codes 0 0 1
 unfolding rowSegments scan
-scan-begins [] h = absurd (omega arith)
-scan-begins (x ∷ xs) h = refl
+scan-start [] h = absurd (omega arith)
+scan-start (x ∷ xs) h = refl
 
-pub scanned-begins : (codes : List ℕ) → 1 ≤ length codes → Scanned codes 0 0 1
-scanned-begins codes h =
+pub scanned-start : (codes : List ℕ) → 1 ≤ length codes → Scanned codes 0 0 1
+scanned-start codes h =
     record {
       order = omega arith;
       before = omega arith;
@@ -53,19 +53,19 @@ scanned-new codes start i o h =
 
 -- ---- at the row's end
 
-pub run-end : (codes : List ℕ) (start last : ℕ) → 3 ≤ length codes - last - 1
-    → rowEnd codes start last ≡ segmentsOf (take (last + 1 - start) (drop start codes)) (length codes - last - 1)
-run-end codes start last h = rw (le-leb 3 (length codes - last - 1) h)
+pub rowEndSegments-run : (codes : List ℕ) (start last : ℕ) → 3 ≤ length codes - last - 1
+    → rowEndSegments codes start last ≡ splitSegments (take (last + 1 - start) (drop start codes)) (length codes - last - 1)
+rowEndSegments-run codes start last h = rw (le-leb 3 (length codes - last - 1) h)
 
-pub raw-end : (codes : List ℕ) (start last : ℕ) → length codes - last - 1 < 3 → rowEnd codes start last ≡ segmentsOf (drop start codes) 0
-raw-end codes start last h = rw (lt-leb 3 (length codes - last - 1) h)
+pub rowEndSegments-raw : (codes : List ℕ) (start last : ℕ) → length codes - last - 1 < 3 → rowEndSegments codes start last ≡ splitSegments (drop start codes) 0
+rowEndSegments-raw codes start last h = rw (lt-leb 3 (length codes - last - 1) h)
 
 -- ---- at a place of the scan
 
 module _ (codes : List ℕ) (start last i : ℕ) (at : Scanned codes start last i) where
   -- the value and its repeats, as a part of the row
-  run-of : take (i - last) (drop last codes) ≡ replicate (i - last) (getD codes last 0)
-  run-of =
+  repeats-are-run : take (i - last) (drop last codes) ≡ replicate (i - last) (getD codes last 0)
+  repeats-are-run =
       let n = at .before in
       let w = at .within in
       let d = length-drop last codes in
@@ -78,9 +78,9 @@ module _ (codes : List ℕ) (start last i : ℕ) (at : Scanned codes start last 
       ∙ at .same (last + j) (omega arith) (omega arith)
       ∙ sym (getD-replicate (i - last) j (getD codes last 0) 0 (omega arith)))
 
-  -- the raw values that wait, with the value and its repeats
-  joined : take (last - start) (drop start codes) ++ getD codes last 0 ∷ replicate (i - last - 1) (getD codes last 0) ≡ take (i - start) (drop start codes)
-  joined =
+  -- the raw values that are pending, with the value and its repeats
+  pending-with-repeats : take (last - start) (drop start codes) ++ getD codes last 0 ∷ replicate (i - last - 1) (getD codes last 0) ≡ take (i - start) (drop start codes)
+  pending-with-repeats =
       let v = getD codes last 0 in
       let o = at .order in
       let b = at .before in
@@ -89,15 +89,15 @@ module _ (codes : List ℕ) (start last i : ℕ) (at : Scanned codes start last 
       let p : start + (last - start) ≡ last = omega arith in
       ap (λ (l : List ℕ). take (last - start) (drop start codes) ++ l)
       (ap (λ (k : ℕ). replicate k v) (sym n)
-      ∙ sym run-of
+      ∙ sym repeats-are-run
       ∙ ap (λ (k : ℕ). take (i - last) (drop k codes)) (sym p)
       ∙ ap (take (i - last)) (sym (drop-drop (last - start) start codes)))
       ∙ sym (take-add (last - start) (i - last) (drop start codes))
       ∙ ap (λ (k : ℕ). take k (drop start codes)) (sym m)
 
-  -- the raw values that wait, with the value alone
-  ended : take (last - start) (drop start codes) ++ getD codes last 0 ∷ [] ≡ take (last + 1 - start) (drop start codes)
-  ended =
+  -- the raw values that are pending, with the value alone
+  pending-with-value : take (last - start) (drop start codes) ++ getD codes last 0 ∷ [] ≡ take (last + 1 - start) (drop start codes)
+  pending-with-value =
       let o = at .order in
       let b = at .before in
       let w = at .within in
@@ -110,16 +110,16 @@ module _ (codes : List ℕ) (start last i : ℕ) (at : Scanned codes start last 
       ∙ ap (λ (x : ℕ). take (last - start) (drop start codes) ++ x ∷ []) (getD-drop start codes (last - start) 0 ∙ ap (λ (k : ℕ). getD codes k 0) p))
 
   -- the value once more
-  pub scan-same : i < length codes → getD codes i 0 ≡ getD codes last 0 → scan codes start last i ≡ scan codes start last (i + 1)
+  pub scan-repeat : i < length codes → getD codes i 0 ≡ getD codes last 0 → scan codes start last i ≡ scan codes start last (i + 1)
   unfolding scan
-  scan-same h e =
+  scan-repeat h e =
       let b = at .before in
       let n : suc (i - last - 1) ≡ suc i - last - 1 = omega arith in
       rw (drop-cons codes i 0 h, add-one i)
-      (from-same (take (last - start) (drop start codes)) (getD codes last 0) (i - last - 1) (getD codes i 0) (drop (suc i) codes) e ∙ rw n)
+      (scanSegments-repeat (take (last - start) (drop start codes)) (getD codes last 0) (i - last - 1) (getD codes i 0) (drop (suc i) codes) e ∙ rw n)
 
-  pub scanned-same : i < length codes → getD codes i 0 ≡ getD codes last 0 → Scanned codes start last (i + 1)
-  scanned-same h e =
+  pub scanned-repeat : i < length codes → getD codes i 0 ≡ getD codes last 0 → Scanned codes start last (i + 1)
+  scanned-repeat h e =
       let b = at .before in
       record {
         order = at .order;
@@ -129,47 +129,47 @@ module _ (codes : List ℕ) (start last i : ℕ) (at : Scanned codes start last 
       }
 
   -- another value after fewer than 3 repeats: they join the raw values
-  pub scan-joins : i < length codes → (getD codes i 0 ≡ getD codes last 0 → ⊥) → i - last - 1 < 3 → scan codes start last i ≡ scan codes start i (i + 1)
+  pub scan-join : i < length codes → (getD codes i 0 ≡ getD codes last 0 → ⊥) → i - last - 1 < 3 → scan codes start last i ≡ scan codes start i (i + 1)
   unfolding scan
-  scan-joins h e k =
+  scan-join h e k =
       let n : 0 ≡ suc i - i - 1 = omega arith in
       rw (drop-cons codes i 0 h, add-one i)
-      (from-joins (take (last - start) (drop start codes)) (getD codes last 0) (i - last - 1) (getD codes i 0) (drop (suc i) codes) e k
-      ∙ rw (joined, ← n))
+      (scanSegments-join (take (last - start) (drop start codes)) (getD codes last 0) (i - last - 1) (getD codes i 0) (drop (suc i) codes) e k
+      ∙ rw (pending-with-repeats, ← n))
 
   -- another value after 3 or more: they end a segment
-  pub scan-ends : i < length codes → (getD codes i 0 ≡ getD codes last 0 → ⊥) → 3 ≤ i - last - 1
-      → scan codes start last i ≡ segmentsOf (take (last + 1 - start) (drop start codes)) (i - last - 1) ++ scan codes i i (i + 1)
+  pub scan-close : i < length codes → (getD codes i 0 ≡ getD codes last 0 → ⊥) → 3 ≤ i - last - 1
+      → scan codes start last i ≡ splitSegments (take (last + 1 - start) (drop start codes)) (i - last - 1) ++ scan codes i i (i + 1)
   unfolding scan
-  scan-ends h e k =
+  scan-close h e k =
       let n : suc i - i - 1 ≡ 0 = omega arith in
       let z : i - i ≡ 0 = omega arith in
       rw (add-one i, n, z)
-      (ap (segmentsFrom (take (last - start) (drop start codes)) (getD codes last 0) (i - last - 1)) (drop-cons codes i 0 h)
-      ∙ from-ends (take (last - start) (drop start codes)) (getD codes last 0) (i - last - 1) (getD codes i 0) (drop (suc i) codes) e k
-      ∙ rw ended)
+      (ap (scanSegments (take (last - start) (drop start codes)) (getD codes last 0) (i - last - 1)) (drop-cons codes i 0 h)
+      ∙ scanSegments-close (take (last - start) (drop start codes)) (getD codes last 0) (i - last - 1) (getD codes i 0) (drop (suc i) codes) e k
+      ∙ rw pending-with-value)
 
   -- the row's end, after 3 or more repeats and after fewer
-  closes-run : i ≡ length codes → 3 ≤ i - last - 1 → scan codes start last i ≡ segmentsOf (take (last + 1 - start) (drop start codes)) (i - last - 1)
+  scan-end-run : i ≡ length codes → 3 ≤ i - last - 1 → scan codes start last i ≡ splitSegments (take (last + 1 - start) (drop start codes)) (i - last - 1)
   unfolding scan
-  closes-run e k =
-      rw (drop-of-length-le codes {i = i} (omega arith), ← ended)
-      (from-closed-run (take (last - start) (drop start codes)) (getD codes last 0) (i - last - 1) k)
+  scan-end-run e k =
+      rw (drop-of-length-le codes {i = i} (omega arith), ← pending-with-value)
+      (scanSegments-end-run (take (last - start) (drop start codes)) (getD codes last 0) (i - last - 1) k)
 
-  closes-raw : i ≡ length codes → i - last - 1 < 3 → scan codes start last i ≡ segmentsOf (take (i - start) (drop start codes)) 0
+  scan-end-raw : i ≡ length codes → i - last - 1 < 3 → scan codes start last i ≡ splitSegments (take (i - start) (drop start codes)) 0
   unfolding scan
-  closes-raw e k =
-      rw (drop-of-length-le codes {i = i} (omega arith), ← joined)
-      (from-closed-raw (take (last - start) (drop start codes)) (getD codes last 0) (i - last - 1) k)
+  scan-end-raw e k =
+      rw (drop-of-length-le codes {i = i} (omega arith), ← pending-with-repeats)
+      (scanSegments-end-raw (take (last - start) (drop start codes)) (getD codes last 0) (i - last - 1) k)
 
-  pub scan-closes : i ≡ length codes → scan codes start last i ≡ rowEnd codes start last
-  scan-closes e =
+  pub scan-end : i ≡ length codes → scan codes start last i ≡ rowEndSegments codes start last
+  scan-end e =
       let d = length-drop start codes in
       ⊎-elim
       (λ (k : 3 ≤ i - last - 1).
-      closes-run e k ∙ ap (λ (n : ℕ). segmentsOf (take (last + 1 - start) (drop start codes)) (n - last - 1)) e
-      ∙ sym (run-end codes start last (omega arith)))
+      scan-end-run e k ∙ ap (λ (n : ℕ). splitSegments (take (last + 1 - start) (drop start codes)) (n - last - 1)) e
+      ∙ sym (rowEndSegments-run codes start last (omega arith)))
       (λ (k : i - last - 1 < 3).
-      closes-raw e k ∙ ap (λ (l : List ℕ). segmentsOf l 0) (take-all (i - start) (drop start codes) (omega arith))
-      ∙ sym (raw-end codes start last (omega arith)))
+      scan-end-raw e k ∙ ap (λ (l : List ℕ). splitSegments l 0) (take-all (i - start) (drop start codes) (omega arith))
+      ∙ sym (rowEndSegments-raw codes start last (omega arith)))
       (le-or-gt 3 (i - last - 1))

@@ -1,22 +1,22 @@
-// The segment writer and the long-run writer, which call each other. Each writes into dst from index `at` on, a whole segment or none
-// of it, and answers the index behind what was written, or refusal 12 at the first segment that does not fit.
+// Writing raw bytes and a run as segments (FORMAT 5.2, 5.3). Each function writes into dst from index `at` on, only complete segments, and returns
+// the index behind the last, or refusal 12 at the first that does not fit.
 ghost use mathlib.Core.Path.{_≡_};
 ghost use mathlib.Core.List.{[], _∷_};
 ghost use Prim.Native.Nat.{_≤_, _<_, min};
 ghost use lib.ListN.{length};
-ghost use Rattle.rle_format.specs.Answer.{toldPacked};
-ghost use Rattle.rle_format.specs.Pack.{literal, repeat, segmentsOf, longRun};
+ghost use Rattle.rle_format.specs.Answer.{packedToAnswer};
+ghost use Rattle.rle_format.specs.Pack.{literal, repeat, splitSegments, longRun};
 ghost use Rattle.rle_format.specs.Written.{answerAt, sliceAt};
 use rle_format::Packed;
 use rle_format::Refusal;
 
-// The longest run in one control byte.
+// The longest run of one segment. The name is IronRDP's.
 const MAX_DECODED_SEGMENT_SIZE: usize = 47;
 
-// One segment of up to 15 raw bytes and a run of up to 15.
+// Writes one segment of up to 15 raw bytes and a run of up to 15.
 fn write_literal(raw: &[u8], run: usize, dst: &mut [u8], at: usize) -> Packed
     requires { ⌜ (length (now raw) ≤ 15) × (run ≤ 15) × (at ≤ length (now dst)) ⌝ }
-    ensures answer { λ r. ⌜ toldPacked r ≡ answerAt (literal (now (raw .entry)) run ∷ []) (now (dst .entry)) at ⌝ }
+    ensures answer { λ r. ⌜ packedToAnswer r ≡ answerAt (literal (now (raw .entry)) run ∷ []) (now (dst .entry)) at ⌝ }
     ensures slice { λ _. ⌜ now (dst .exit) ≡ sliceAt (literal (now (raw .entry)) run ∷ []) (now (dst .entry)) at ⌝ }
 {
     let raw_len = raw.len();
@@ -28,10 +28,10 @@ fn write_literal(raw: &[u8], run: usize, dst: &mut [u8], at: usize) -> Packed
     Packed::Written(at + 1 + raw_len)
 }
 
-// One long run of 16 to 47, a control byte alone.
+// Writes one segment without raw bytes, a run of 16 to 47.
 fn write_repeat(run: usize, dst: &mut [u8], at: usize) -> Packed
     requires { ⌜ (16 ≤ run) × (run ≤ 47) × (at ≤ length (now dst)) ⌝ }
-    ensures answer { λ r. ⌜ toldPacked r ≡ answerAt (repeat run ∷ []) (now (dst .entry)) at ⌝ }
+    ensures answer { λ r. ⌜ packedToAnswer r ≡ answerAt (repeat run ∷ []) (now (dst .entry)) at ⌝ }
     ensures slice { λ _. ⌜ now (dst .exit) ≡ sliceAt (repeat run ∷ []) (now (dst .entry)) at ⌝ }
 {
     if dst.len() - at < 1 {
@@ -41,8 +41,8 @@ fn write_repeat(run: usize, dst: &mut [u8], at: usize) -> Packed
     Packed::Written(at + 1)
 }
 
-// What goes out of a long run in one control byte.
-fn next_part(left: usize) -> usize
+// How much of a long run goes into one segment.
+fn long_run_part(left: usize) -> usize
     ensures { λ r. ⌜ r ≡ min left 47 ⌝ }
 {
     if left < MAX_DECODED_SEGMENT_SIZE {
@@ -52,8 +52,8 @@ fn next_part(left: usize) -> usize
     }
 }
 
-// How many raw bytes the rest of a long run, 1 to 15, begins with: 1 to 3 go raw, 4 to 15 as one raw byte and a run.
-fn raw_part(left: usize) -> usize
+// How many raw bytes the rest of a long run, 1 to 15 values, begins with: 1 to 3 values are all raw, 4 to 15 are one raw byte and a run.
+fn raw_count_of_rest(left: usize) -> usize
     requires { ⌜ 0 < left ⌝ }
     ensures few { λ r. ⌜ (0 < r) × (r ≤ 3) × (r ≤ left) ⌝ }
     ensures part { λ r. ⌜ (left < 4 → r ≡ left) × (4 ≤ left → r ≡ 1) ⌝ }
@@ -61,19 +61,19 @@ fn raw_part(left: usize) -> usize
     if left < 4 { left } else { 1 }
 }
 
-// What goes out of a run with the raw bytes before it.
-fn run_capped(run: usize) -> usize
+// How much of a run goes into the segment with the raw bytes before it.
+fn short_run_part(run: usize) -> usize
     ensures { λ r. ⌜ r ≡ min run 15 ⌝ }
 {
     if run < 15 { run } else { 15 }
 }
 
-// The segment writer. While more than 15 raw bytes wait, 15 go out with run 0; the last 1 to 15 go with the run, at most 15 of it,
-// and the long-run writer has what is left of the run.
+// Writes raw bytes and a run of the last of them: 15 raw bytes at a time, then the last 1 to 15 with at most 15 of the run, then the rest of the
+// run.
 pub(crate) fn encode_segment(raw: &[u8], run: usize, dst: &mut [u8], at: usize) -> Packed
     requires { ⌜ (0 < length (now raw)) × (at ≤ length (now dst)) ⌝ }
-    ensures answer { λ r. ⌜ toldPacked r ≡ answerAt (segmentsOf (now (raw .entry)) run) (now (dst .entry)) at ⌝ }
-    ensures slice { λ _. ⌜ now (dst .exit) ≡ sliceAt (segmentsOf (now (raw .entry)) run) (now (dst .entry)) at ⌝ }
+    ensures answer { λ r. ⌜ packedToAnswer r ≡ answerAt (splitSegments (now (raw .entry)) run) (now (dst .entry)) at ⌝ }
+    ensures slice { λ _. ⌜ now (dst .exit) ≡ sliceAt (splitSegments (now (raw .entry)) run) (now (dst .entry)) at ⌝ }
 {
     let mut start = 0;
     let mut to = at;
@@ -85,7 +85,7 @@ pub(crate) fn encode_segment(raw: &[u8], run: usize, dst: &mut [u8], at: usize) 
         to = next;
         start += 15;
     }
-    let answer = write_literal(&raw[start..], run_capped(run), dst, to);
+    let answer = write_literal(&raw[start..], short_run_part(run), dst, to);
     let Packed::Written(next) = answer else {
         return answer;
     };
@@ -95,16 +95,16 @@ pub(crate) fn encode_segment(raw: &[u8], run: usize, dst: &mut [u8], at: usize) 
     encode_long_sequence(run - 15, raw[raw.len() - 1], dst, next)
 }
 
-// The long-run writer. While 16 or more remain, at most 47 go out in one control byte; the segment writer has what is left.
+// Writes a long run of `last`: while 16 or more are left, one control byte for at most 47 of them, then the rest as raw bytes and a short run.
 fn encode_long_sequence(run: usize, last: u8, dst: &mut [u8], at: usize) -> Packed
     requires { ⌜ at ≤ length (now dst) ⌝ }
-    ensures answer { λ r. ⌜ toldPacked r ≡ answerAt (longRun last run) (now (dst .entry)) at ⌝ }
+    ensures answer { λ r. ⌜ packedToAnswer r ≡ answerAt (longRun last run) (now (dst .entry)) at ⌝ }
     ensures slice { λ _. ⌜ now (dst .exit) ≡ sliceAt (longRun last run) (now (dst .entry)) at ⌝ }
 {
     let mut left = run;
     let mut to = at;
     while 16 <= left {
-        let part = next_part(left);
+        let part = long_run_part(left);
         let answer = write_repeat(part, dst, to);
         let Packed::Written(next) = answer else {
             return answer;
@@ -116,6 +116,6 @@ fn encode_long_sequence(run: usize, last: u8, dst: &mut [u8], at: usize) -> Pack
         return Packed::Written(to);
     }
     let raw = [last; 3];
-    let count = raw_part(left);
+    let count = raw_count_of_rest(left);
     encode_segment(&raw[0..count], left - count, dst, to)
 }

@@ -1,4 +1,4 @@
--- How many bytes a reader of bytes wrote, which bounds what its caller may lend on. Of malformed text it is none. Assumes nothing.
+-- How many bytes a reader of bytes wrote, which bounds the part that its caller may pass on. Of malformed text it is none. Assumes nothing.
 use Prim.Native.Nat.{ℕ}
 use Rattle.vectors.specs.declared.read.Bytes.{Bytes}
 use Rattle.vectors.specs.declared.read.Bytes.the-variants as bytes

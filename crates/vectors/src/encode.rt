@@ -1,10 +1,10 @@
-// Replays one case of packing a picture, told on one line, from its channels or from its pixels:
+// Replays one case of packing a picture, given on one line, from its channels or from its pixels:
 //     WIDTH HEIGHT RLE ALPHA ROOM ANSWER SENTRLE SENTALPHA SENTDEFINITION R G B A AFTER
 //     WIDTH HEIGHT RLE ALPHA ROOM ANSWER SENTRLE SENTALPHA SENTDEFINITION PIXELS AFTER
 // RLE is 0 or 1. ALPHA is 1 for the entry that packs alpha; where it is 0, A is a hyphen. ROOM is the length of the
 // destination, ANSWER the bytes written or minus the refusal's number, AFTER all the destination's bytes afterwards. SENTRLE,
-// SENTALPHA and SENTDEFINITION are the header record that is handed back, 0 or 1 each, with 0 for ARGB. A refusal hands back
-// none, and then they are not looked at. Bytes are as in a plane's line.
+// SENTALPHA and SENTDEFINITION are the header record that is returned, 0 or 1 each, with 0 for ARGB. A refusal returns
+// none, and then they are ignored. Bytes are as in a plane's line.
 use crate::part;
 use crate::part::MARGIN;
 use crate::part::MOST;
@@ -51,7 +51,7 @@ const SENT_DEFINITION: usize = 2;
 
 const BEHIND: usize = 3;
 
-// The header record that should be handed back.
+// The header record that should be returned.
 struct Sent {
     rle: bool,
     alpha: bool,
@@ -91,7 +91,7 @@ struct Given {
     next: usize,
 }
 
-// Replays the case that a line tells.
+// Replays the case of a line.
 pub(crate) fn replay(source: Source, line: &[u8]) -> Outcome {
     let Head::Of(case) = read_head(source, line) else {
         return Outcome::Malformed;
@@ -213,7 +213,7 @@ fn read_given(
 }
 
 // Reads the bytes at `at` to the start of into. Behind malformed ones the place is outside every line: nothing more is read,
-// and the line is not whole.
+// and the line is not complete.
 fn next_field(line: &[u8], at: usize, into: &mut [u8]) -> Field
     ensures { λ r. ⌜ r .count ≤ length (now (into .entry)) ⌝ }
 {
@@ -242,7 +242,7 @@ fn is_whole(case: Case, a: usize, last: Field, line: &[u8]) -> bool {
     last.next == line.len() && last.count == case.room && (case.alpha || a == 0)
 }
 
-// Runs the case on a part of dst, as long as after, and compares all that there is to see.
+// Runs the case on a part of dst, as long as after, and compares everything that can be observed.
 fn run(case: Case, r: &[u8], g: &[u8], b: &[u8], a: &[u8], dst: &mut [u8], after: &[u8]) -> Outcome
     requires { ⌜ length (now after) + 32 ≤ length (now dst) ⌝ }
 {
@@ -304,7 +304,7 @@ fn of_encoding(encoded: Encoded) -> Answer {
     }
 }
 
-// Whether the header record is the one that the line tells. A refusal has none.
+// Whether the header record is that of the line. A refusal has none.
 fn is_sent(case: Case, encoded: Encoded) -> bool {
     match encoded {
         Encoded::Written { bytes: _, header } => is_same(case.sent, header),

@@ -1,4 +1,4 @@
-// A data file: loaded whole, and replayed line by line.
+// A data file: loaded completely, and replayed line by line.
 use crate::encode;
 use crate::encode::Source;
 use crate::picture;
@@ -21,7 +21,7 @@ pub(crate) enum Kind {
 // The largest file: 1 MiB. What is loaded has room for one byte more, which only a larger file fills.
 const MOST: usize = 1_048_576;
 
-// So many lines of a file that are different or malformed are told one by one. The rest is only counted.
+// So many lines of a file that are different or malformed are reported one by one. The rest is only counted.
 const TOLD: usize = 10;
 
 // Replays the file at path, whose cases are all of one kind, and prints its tally, or why there is none.
@@ -30,8 +30,8 @@ pub(crate) fn replay(kind: Kind, path: &[u8]) {
     replay_in(kind, path, &mut room);
 }
 
-// The same, with room for the file. An array of this size is lent as an array: its type says its length, which otherwise
-// would have to be proved by counting.
+// The same, with room for the file. An array of this size is passed as an array, whose type has the length; that of a slice would have
+// to be proved.
 fn replay_in(kind: Kind, path: &[u8], room: &mut [u8; MOST + 1]) {
     let fd = os::open_read(path);
     if fd < 0 {

@@ -1,4 +1,4 @@
-// Replays the stored cases of data/ through the public entries and prints, for each file, how many came out as stored.
+// Replays the stored cases of data/ through the public functions and prints, for each file, how many came out as stored.
 // An entry that answers otherwise, or a data file that is damaged, changes what is printed.
 mod encode;
 mod file;

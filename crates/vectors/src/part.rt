@@ -1,4 +1,4 @@
-// The slices that the entries are lent, each as a part of more, so that a byte written outside is seen.
+// The slices that the functions get, each a part of a larger array, so that a byte written outside it is seen.
 use crate::read;
 ghost use mathlib.Core.Path.{_≡_};
 ghost use Prim.Native.Nat.{_+_, _≤_};
@@ -21,7 +21,7 @@ pub(crate) struct Seen {
     pub(crate) untouched: bool,
 }
 
-// Room for the most bytes, with the margins. The length is all that lending a part of it needs.
+// Room for the most bytes, with the margins. Only its length matters.
 pub(crate) fn surrounded() -> [u8; MOST + MARGIN * 2]
     ensures { λ r. ⌜ 33032 ≡ length r ⌝ }
 {

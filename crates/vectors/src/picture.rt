@@ -1,4 +1,4 @@
-// Replays one case of a picture, told on one line:
+// Replays one case of a picture, given on one line:
 //     WIDTH HEIGHT RLE ALPHA DEFINITION LEVEL SUBSAMPLED WORKROOM IMAGEROOM ANSWER BODY WORK-AFTER IMAGE-AFTER
 // RLE, ALPHA and SUBSAMPLED are 0 or 1, LEVEL is 0 to 255. DEFINITION is 0 for ARGB, which has no use for LEVEL and
 // SUBSAMPLED, and 1 for AYCoCg. WORKROOM and IMAGEROOM are the lengths of the work area and of the image, ANSWER the bytes
@@ -68,7 +68,7 @@ enum Held {
     Malformed,
 }
 
-// Replays the case that a line tells.
+// Replays the case of a line.
 pub(crate) fn replay(line: &[u8]) -> Outcome {
     let Head::Of(case) = read_head(line) else {
         return Outcome::Malformed;
@@ -140,7 +140,7 @@ fn read_head(line: &[u8]) -> Head {
     })
 }
 
-// The header that the numbers tell.
+// The header record of the numbers.
 fn header_of(numbers: [usize; NUMBERS]) -> Header {
     if !are_flags(
         numbers[RLE],
@@ -199,7 +199,7 @@ fn of_decoding(decoded: Decoded) -> Answer {
     }
 }
 
-// Compares all that there is to see with the end of the line, from `at` on.
+// Compares everything that can be observed with the end of the line, from `at` on.
 fn compared(case: Case, got: Answer, line: &[u8], at: usize, work: &[u8], image: &[u8]) -> Outcome
     requires { ⌜ (case .work + 32 ≤ length (now work)) × (case .image + 32 ≤ length (now image)) ⌝ }
 {

@@ -1,4 +1,4 @@
-// Replays one case of a plane, told on one line:
+// Replays one case of a plane, given on one line:
 //     WIDTH HEIGHT ROOM ANSWER GIVEN AFTER
 // GIVEN is the body that is unpacked or the samples that are packed, ROOM the length of the destination, ANSWER the bytes read
 // or written or minus the refusal's number, AFTER all the destination's bytes afterwards. In GIVEN and AFTER two capital
@@ -51,7 +51,7 @@ enum Head {
     Malformed,
 }
 
-// Replays the case that a line tells.
+// Replays the case of a line.
 pub(crate) fn replay(entry: Entry, line: &[u8]) -> Outcome {
     let Head::Of(case) = read_head(entry, line) else {
         return Outcome::Malformed;
@@ -138,7 +138,7 @@ fn is_whole(case: Case, room: usize, line: &[u8], end: usize) -> bool {
     room == case.room && end == line.len()
 }
 
-// Runs the case on a part of dst, as long as after, and compares all that there is to see.
+// Runs the case on a part of dst, as long as after, and compares everything that can be observed.
 fn run(case: Case, given: &[u8], dst: &mut [u8], after: &[u8]) -> Outcome
     requires { ⌜ length (now after) + 32 ≤ length (now dst) ⌝ }
 {

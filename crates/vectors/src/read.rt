@@ -1,5 +1,5 @@
 // Reads the fields of one line of a data file. The line is given with its newline; each field ends in a space or in that
-// newline. A reader is handed a place of the line, and answers what stands there and, as next, the place behind the byte
+// newline. A reader gets an index in the line, and returns what is there and, as next, the index behind the byte
 // that ends the field. A place outside the line is malformed like any other text.
 ghost use mathlib.Core.Path.{_≡_};
 ghost use Prim.Native.Nat.{_≤_, _<_};

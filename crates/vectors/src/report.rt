@@ -11,7 +11,7 @@ pub(crate) struct Answer {
 // What replaying a line gave.
 pub(crate) enum Outcome {
     Equal,
-    // The two answers; whether a header record that is handed back is the right one; whether the destination holds what it
+    // The two answers; whether a header record that is returned is the right one; whether the destination holds what it
     // should; whether the bytes around it are untouched.
     Different {
         expected: Answer,

@@ -1,4 +1,4 @@
-//! Writes the module tree that the Rust files expect around them (`crate::rdp6::rle`, `crate::rdp6::bitmap_stream`), with the
+//! Writes the module tree that IronRDP's files expect around them (`crate::rdp6::rle`, `crate::rdp6::bitmap_stream`), with the
 //! paths of the files themselves: they are compiled where they lie and never copied.
 
 use std::path::{Path, PathBuf};
@@ -13,7 +13,7 @@ fn source_folder() -> PathBuf {
     }
 }
 
-/// The absolute path of one of the Rust files.
+/// The absolute path of one of IronRDP's files.
 fn file_of(folder: &Path, name: &str) -> PathBuf {
     let file = folder.join("crates/ironrdp-graphics/src").join(name);
     println!("cargo:rerun-if-changed={}", file.display());

@@ -2,20 +2,20 @@
 
 use std::fmt;
 
+use crate::answer::to_result;
 use crate::ffi;
 use crate::header::Definition;
-use crate::told::told;
 use crate::{BitmapStreamHeader, Refusal};
 
-/// The name of the original's error. Here a refusal of [`decode`] or of [`BitmapStreamDecoder`]: 1 to 9.
+/// IronRDP's name for its error. Here it is a refusal of [`decode`] or of [`BitmapStreamDecoder`]: 1 to 9.
 pub type BitmapDecodeError = Refusal;
 
 /// Unpacks a picture from its body, which is what follows the header byte, into the first 3 × `width` × `height` bytes of `image`: R, G and
-/// B of each pixel, row by row from the top. Answers that number. Nothing is allocated.
+/// B of each pixel, row by row. Returns that number. Nothing is allocated.
 ///
-/// An RLE picture is unpacked by way of `work`, which then holds its three colour planes one after the other; [`work_size`] says how many
-/// bytes that takes. A raw picture does not touch `work`, which may be empty. The bytes of both slices behind what is written are
-/// untouched, and so are those of `body` that follow its last plane.
+/// An RLE picture is unpacked into `work`, which then has its three colour planes one after the other; [`work_size`] is its minimum length.
+/// A raw picture does not use `work`, which may be empty. Bytes of both slices behind what is written are unchanged, and what follows the
+/// last plane in `body` is not read.
 ///
 /// ```
 /// use rdp6::{BitmapStreamHeader, ColorPlaneDefinition};
@@ -35,21 +35,21 @@ pub type BitmapDecodeError = Refusal;
 ///
 /// # Errors
 ///
-/// In the order in which they are tested. The image is unchanged by every one of them:
+/// In the order in which they are checked. None of them changes the image:
 ///
-/// | Number | Given exactly if | `work` |
+/// | Number | Condition | `work` |
 /// |---|---|---|
 /// | 1 | `width` or `height` is 0 | unchanged |
 /// | 2 | `width` or `height` is over 8,192 | unchanged |
 /// | 3 | AYCoCg with loss level 0 or over 7 | unchanged |
-/// | 4 | `body` is shorter than its least size | unchanged |
+/// | 4 | `body` is shorter than its minimum size | unchanged |
 /// | 5 | `work` is shorter than [`work_size`] (RLE only) | unchanged |
 /// | 6 | `image` is shorter than [`image_size`] | unchanged |
-/// | 7 | a control byte or a raw byte is missing (RLE only) | the planes before are complete; the refused one is left as [`decompress_8bpp_plane`](crate::decompress_8bpp_plane) leaves it, and what it did not write still holds alpha, if that is flagged and it is the first colour plane, or what was there |
+/// | 7 | a control byte or a raw byte is missing (RLE only) | the planes before are complete, and the refused one is as [`decompress_8bpp_plane`](crate::decompress_8bpp_plane) leaves it. If it is the first colour plane, the part that it did not write still has alpha, if there is any |
 /// | 8 | a control byte is 0 (RLE only) | the same |
-/// | 9 | a segment passes the width (RLE only) | the same |
+/// | 9 | a segment overruns its row (RLE only) | the same |
 ///
-/// The least size of a raw body is the sum of its planes. That of an RLE body is the sum over its planes of height × (width / 47
+/// The minimum size of a raw body is the sum of its planes. That of an RLE body is the sum over its planes of height × (width / 47
 /// rounded up).
 pub fn decode(
     header: BitmapStreamHeader,
@@ -60,7 +60,7 @@ pub fn decode(
     height: usize,
 ) -> Result<usize, BitmapDecodeError> {
     let definition = Definition::from(header.color_plane_definition);
-    // SAFETY: the three slices are lent for the call with their true lengths, and nothing keeps them; `work` and `image`, each a `&mut`,
+    // SAFETY: the three slices are valid for the call with these lengths, and nothing keeps them; `work` and `image`, each a `&mut`,
     // overlap no other.
     let answer = unsafe {
         ffi::rdp6_decode(
@@ -79,11 +79,11 @@ pub fn decode(
             height,
         )
     };
-    told(answer)
+    to_result(answer)
 }
 
-/// The least length of the work area that [`decode`] asks for: the bytes of the three colour planes, or 0 if the picture is raw. It is
-/// 0 for sides that are refused, and does not look at the loss level.
+/// The minimum length of the work area of [`decode`]: the size of the three colour planes, or 0 if the picture is raw. It is 0 for sides that
+/// are refused, and does not depend on the loss level.
 ///
 /// ```
 /// use rdp6::{BitmapStreamHeader, ColorPlaneDefinition};
@@ -96,7 +96,7 @@ pub fn decode(
 /// ```
 pub fn work_size(header: BitmapStreamHeader, width: usize, height: usize) -> usize {
     let definition = Definition::from(header.color_plane_definition);
-    // SAFETY: the function takes numbers alone.
+    // SAFETY: the function takes only numbers.
     unsafe {
         ffi::rdp6_work_size(
             header.enable_rle_compression,
@@ -108,27 +108,26 @@ pub fn work_size(header: BitmapStreamHeader, width: usize, height: usize) -> usi
     }
 }
 
-/// The least length of the image that [`decode`] asks for, 3 × `width` × `height`. It is 0 for sides that are refused, and 201,326,592
-/// at most.
+/// The minimum length of the image of [`decode`], 3 × `width` × `height`. It is 0 for sides that are refused, and at most 201,326,592.
 ///
 /// ```
 /// assert_eq!(rdp6::image_size(640, 480), 921_600);
 /// assert_eq!(rdp6::image_size(8_193, 1), 0);
 /// ```
 pub fn image_size(width: usize, height: usize) -> usize {
-    // SAFETY: the function takes numbers alone.
+    // SAFETY: the function takes only numbers.
     unsafe { ffi::rdp6_image_size(width, height) }
 }
 
-/// A decoder of pictures that keeps its work area from picture to picture, so that it is allocated once for the largest.
+/// A decoder that keeps its work area from picture to picture, so that it is allocated once for the largest.
 ///
-/// [`decode`] is the same over slices of the caller's, without any allocation.
+/// [`decode`] does the same with slices of the caller and without allocation.
 #[derive(Default)]
 pub struct BitmapStreamDecoder {
     planes_buffer: Vec<u8>,
 }
 
-/// The length of the work area and not its bytes, which are millions.
+/// Shows the length of the work area, not its bytes.
 impl fmt::Debug for BitmapStreamDecoder {
     fn fmt(&self, f: &mut fmt::Formatter<'_>) -> fmt::Result {
         let length = self.planes_buffer.len();
@@ -137,10 +136,10 @@ impl fmt::Debug for BitmapStreamDecoder {
 }
 
 impl BitmapStreamDecoder {
-    /// Unpacks a picture from its body and appends R, G and B of each pixel, row by row from the top, to `dst`.
+    /// Unpacks a picture from its body and appends R, G and B of each pixel, row by row, to `dst`.
     ///
-    /// The original's `decode_bitmap_stream_to_rgb24` reads the header byte first; here the caller does, and passes what it says as
-    /// `header` and the bytes behind it as `body`. The Pad byte at the end of a raw stream may stay with the body or not.
+    /// IronRDP's `decode_bitmap_stream_to_rgb24` reads the header byte first. Here the caller does, and passes what it says as `header` and
+    /// the bytes behind it as `body`, with or without the pad byte at the end of a raw stream.
     ///
     /// ```
     /// use rdp6::{BitmapStreamDecoder, BitmapStreamHeader, ColorPlaneDefinition};
@@ -156,12 +155,12 @@ impl BitmapStreamDecoder {
     ///
     /// # Errors
     ///
-    /// 1, 2, 3, 4, 7, 8 and 9, as [`decode`] has them and in its order; 5 and 6 never, since both areas are made as long as they must
-    /// be. `dst` holds what it held after every one of them. Nothing is allocated for a picture that gets one of the first four.
+    /// 1, 2, 3, 4, 7, 8 and 9, as [`decode`] has them and in its order; never 5 or 6, since both areas get their minimum
+    /// lengths. `dst` is unchanged by every one of them, and nothing is allocated before the first four are checked.
     ///
     /// # Aborts
     ///
-    /// As every `Vec` does if there is no memory: the image has at most 201,326,592 bytes, and the work area no more.
+    /// If memory runs out, as every `Vec` does. The image has at most 201,326,592 bytes, and so has the work area.
     pub fn decode_body_to_rgb24(
         &mut self,
         header: BitmapStreamHeader,
@@ -170,7 +169,7 @@ impl BitmapStreamDecoder {
         image_width: usize,
         image_height: usize,
     ) -> Result<(), BitmapDecodeError> {
-        test_lengthless(header, body, image_width, image_height)?;
+        check_arguments(header, body, image_width, image_height)?;
         let work = self.work_area(work_size(header, image_width, image_height));
         let start = dst.len();
         dst.resize(start + image_size(image_width, image_height), 0);
@@ -181,7 +180,7 @@ impl BitmapStreamDecoder {
         answer.map(|_| ())
     }
 
-    /// Just so many bytes, whatever they hold.
+    /// The first `size` bytes of the work area, which are not cleared.
     fn work_area(&mut self, size: usize) -> &mut [u8] {
         if self.planes_buffer.len() < size {
             self.planes_buffer.resize(size, 0);
@@ -190,8 +189,8 @@ impl BitmapStreamDecoder {
     }
 }
 
-/// The tests before those of the work area and the image, 1 to 4. The library does them: with both areas empty no picture gets past 6.
-fn test_lengthless(header: BitmapStreamHeader, body: &[u8], width: usize, height: usize) -> Result<(), Refusal> {
+/// Refusals 1 to 4, before anything is allocated. The library checks them: with an empty work area and an empty image the next refusal is 5 or 6.
+fn check_arguments(header: BitmapStreamHeader, body: &[u8], width: usize, height: usize) -> Result<(), Refusal> {
     match decode(header, body, &mut [], &mut [], width, height) {
         Err(Refusal::ShortWork | Refusal::ShortImage) => Ok(()),
         answer => answer.map(|_| ()),

@@ -1,13 +1,13 @@
 //! Packing a picture.
 
+use crate::answer::to_result;
 use crate::ffi;
-use crate::told::told;
 use crate::{BitmapStreamHeader, ColorPlaneDefinition, Refusal};
 
-/// The name of the original's error. Here a refusal of [`BitmapStreamEncoder`]: 1, 2, 11 or 12.
+/// IronRDP's name for its error. Here it is a refusal of [`BitmapStreamEncoder`]: 1, 2, 11 or 12.
 pub type BitmapEncodeError = Refusal;
 
-/// What a layout of pixels is to the library: its packers of it. A layout is added with those.
+/// The functions of the library that pack a layout of pixels.
 mod sealed {
     use super::ffi::EncodeBitmap;
 
@@ -20,7 +20,7 @@ mod sealed {
     }
 }
 
-/// Where the colours stand in a pixel. The library has its layouts built in, so that no other type can implement this:
+/// The offsets of the colours in a pixel. The library has its layouts built in, so no other type can implement this:
 ///
 /// ```compile_fail
 /// struct Own;
@@ -33,19 +33,19 @@ mod sealed {
 /// }
 /// ```
 pub trait ColorChannels: sealed::Layout {
-    /// The bytes of a pixel.
+    /// The number of bytes of a pixel.
     const STRIDE: usize;
-    /// The place of R.
+    /// The offset of R.
     const R: usize;
-    /// The place of G.
+    /// The offset of G.
     const G: usize;
-    /// The place of B.
+    /// The offset of B.
     const B: usize;
 }
 
-/// Where alpha stands in a pixel.
+/// The offset of alpha in a pixel.
 pub trait AlphaChannel: sealed::AlphaLayout {
-    /// The place of A.
+    /// The offset of A.
     const A: usize;
 }
 
@@ -85,13 +85,12 @@ impl sealed::AlphaLayout for BgrAChannels {
 /// What was packed: the length of the body, and the header record to send before it.
 #[derive(Clone, Copy, Debug, PartialEq, Eq, Hash)]
 pub struct Encoded {
-    /// The bytes written, which are the body. The original's count has the header byte too: it is one more.
+    /// The number of bytes written, the length of the body. IronRDP's count includes the header byte and is one more.
     pub bytes: usize,
-    /// The record that the header byte is to say: RLE as asked, ARGB, and no alpha.
+    /// The record for the header byte: RLE as asked for, ARGB, no alpha.
     ///
-    /// There is no alpha flag with four planes either, since the original sends none, although MS-RDPEGDI asks for it. A decoder that
-    /// goes by this record takes A for R, R for G and G for B. Whoever unpacks such a body sets `use_alpha`, and so should whoever
-    /// sends it.
+    /// With four planes too the alpha flag is false, as IronRDP sends it, although MS-RDPEGDI asks for it. A sender should set `use_alpha` for
+    /// four planes: without it a decoder takes A for R, R for G and G for B.
     pub header: BitmapStreamHeader,
 }
 
@@ -102,20 +101,20 @@ impl Encoded {
             use_alpha: false,
             color_plane_definition: ColorPlaneDefinition::Argb,
         };
-        told(answer).map(|bytes| Encoded { bytes, header })
+        to_result(answer).map(|bytes| Encoded { bytes, header })
     }
 }
 
 /// Packs pictures of one width and height.
 ///
-/// Its methods write a picture's body to the start of `dst`; the bytes behind it are untouched. **They write no header byte**, as the
-/// original's do: that is the caller's, who may leave room for it:
+/// Its methods write the body of a picture to the start of `dst`; the bytes behind it are unchanged. Unlike IronRDP's **they write no header
+/// byte**. The caller writes it, and may leave room for it:
 ///
 /// ```
 /// use rdp6::{BgrAChannels, BitmapStreamEncoder};
 ///
 /// let header_byte = |header: rdp6::BitmapStreamHeader| -> u8 {
-///     // .. the service's own writer, by MS-RDPEGDI 2.2.2.5.1
+///     // the service's own, by MS-RDPEGDI 2.2.2.5.1
 /// #   0x20 | u8::from(header.enable_rle_compression) << 4
 /// };
 /// let pixels = [7; 4 * 4 * 2];
@@ -127,20 +126,20 @@ impl Encoded {
 /// # Ok::<(), rdp6::Refusal>(())
 /// ```
 ///
-/// With `rle` the planes go out one after the other, each as [`compress_8bpp_plane`](crate::compress_8bpp_plane) packs it: at most 6 ×
-/// width × height bytes, with alpha 8 × width × height. Without it their samples go out as they are, then one zero byte: 3 × width × height
-/// + 1 bytes, with alpha 4 × width × height + 1.
+/// With `rle` the body has the planes one after the other, each as [`compress_8bpp_plane`](crate::compress_8bpp_plane) packs it: at most 6 ×
+/// width × height bytes, with alpha 8 × width × height. Without it the body has their samples, then one zero byte: 3 × width × height + 1
+/// bytes, with alpha 4 × width × height + 1.
 ///
 /// # Errors
 ///
 /// All four methods give these, in the order in which they are tested:
 ///
-/// | Number | Given exactly if | `dst` |
+/// | Number | Condition | `dst` |
 /// |---|---|---|
 /// | 1 | the width or the height is 0 | unchanged |
 /// | 2 | the width or the height is over 8,192 | unchanged |
-/// | 11 | a channel has fewer than width × height samples, or a slice of pixels fewer whole pixels | unchanged |
-/// | 12 | RLE: the next segment does not fit | the segments before it are written whole; the rest is untouched |
+/// | 11 | a channel has fewer than width × height samples, or a slice of pixels fewer complete pixels | unchanged |
+/// | 12 | RLE: the next segment does not fit | the segments before it are written; the rest is unchanged |
 /// | 12 | raw: the body does not fit | unchanged |
 #[derive(Clone, Debug)]
 pub struct BitmapStreamEncoder {
@@ -149,15 +148,15 @@ pub struct BitmapStreamEncoder {
 }
 
 impl BitmapStreamEncoder {
-    /// For pictures of these sides, which each method tests.
+    /// For pictures of these sides, which each method checks.
     pub fn new(width: usize, height: usize) -> Self {
         Self { width, height }
     }
 
-    /// Packs R, G and B, a channel each: one byte a pixel, row by row from the top. What follows the first width × height is not read.
+    /// Packs R, G and B from one slice each: one byte a pixel, row by row. What follows the first width × height bytes is not read.
     ///
-    /// The original takes iterators. The library takes slices, so that a channel is all that has one to show: `&[u8]`, an array, a `Vec`,
-    /// `vec.into_iter()`, `slice.iter()`.
+    /// IronRDP's method takes iterators. Here a channel is anything that is a slice of bytes: `&[u8]`, an array, a `Vec`, `vec.into_iter()`,
+    /// `slice.iter()`.
     ///
     /// ```
     /// let (r, g, b) = ([1, 2], [3, 4], [5, 6]);
@@ -184,7 +183,7 @@ impl BitmapStreamEncoder {
         B: AsRef<[u8]>,
     {
         let (r, g, b) = (r.as_ref(), g.as_ref(), b.as_ref());
-        // SAFETY: the slices are lent for the call with their true lengths, and nothing keeps them; `dst`, a `&mut`, overlaps no other.
+        // SAFETY: the slices are valid for the call with these lengths, and nothing keeps them; `dst`, a `&mut`, overlaps no other.
         let answer = unsafe {
             ffi::rdp6_encode_channels_stream(
                 r.as_ptr(),
@@ -203,7 +202,7 @@ impl BitmapStreamEncoder {
         Encoded::of(answer, rle)
     }
 
-    /// The same with alpha, a channel like the others. It goes out first: A, R, G, B. [`Encoded::header`] says what to know of its header.
+    /// The same with an alpha plane, which is the first: A, R, G, B. See [`Encoded::header`] for the alpha flag.
     ///
     /// ```
     /// let (r, g, b, a) = ([1], [2], [3], [255]);
@@ -229,7 +228,7 @@ impl BitmapStreamEncoder {
         A: AsRef<[u8]>,
     {
         let (r, g, b, a) = (r.as_ref(), g.as_ref(), b.as_ref(), a.as_ref());
-        // SAFETY: the slices are lent for the call with their true lengths, and nothing keeps them; `dst`, a `&mut`, overlaps no other.
+        // SAFETY: the slices are valid for the call with these lengths, and nothing keeps them; `dst`, a `&mut`, overlaps no other.
         let answer = unsafe {
             ffi::rdp6_encode_channels_stream_alpha(
                 r.as_ptr(),
@@ -250,7 +249,7 @@ impl BitmapStreamEncoder {
         Encoded::of(answer, rle)
     }
 
-    /// Packs R, G and B of pixels, row by row from the top. Alpha is left out. What follows the first width × height pixels is not read.
+    /// Packs R, G and B of pixels, row by row. Alpha is left out. What follows the first width × height pixels is not read.
     ///
     /// ```
     /// use rdp6::{BgrAChannels, BitmapStreamEncoder};
@@ -273,7 +272,7 @@ impl BitmapStreamEncoder {
         self.encode_pixels(F::ENCODE_BITMAP, src, dst, rle)
     }
 
-    /// The same with alpha: A, R, G, B. [`Encoded::header`] says what to know of its header.
+    /// The same with alpha: A, R, G, B. See [`Encoded::header`] for the alpha flag.
     ///
     /// ```
     /// use rdp6::{BgrAChannels, BitmapStreamEncoder};
@@ -308,8 +307,8 @@ impl BitmapStreamEncoder {
         dst: &mut [u8],
         rle: bool,
     ) -> Result<Encoded, Refusal> {
-        // SAFETY: both slices are lent for the call with their true lengths, and nothing keeps them; `dst`, a `&mut`, overlaps no other.
-        // `encode` is a layout's packer, and layouts are this module's.
+        // SAFETY: both slices are valid for the call with these lengths, and nothing keeps them; `dst`, a `&mut`, overlaps no other.
+        // `encode` is one of the library's functions: only this module implements layouts.
         let answer =
             unsafe { encode(src.as_ptr(), src.len(), dst.as_mut_ptr(), dst.len(), rle, self.width, self.height) };
         Encoded::of(answer, rle)

@@ -18,7 +18,7 @@ pub fn hex(text: &str) -> Vec<u8> {
 
 const AROUND: usize = 40;
 
-/// What stands around a lent slice. It changes from byte to byte, so that a byte moved is seen too.
+/// What is around a slice that a function gets. It changes from byte to byte, so that a moved byte is seen too.
 fn around(i: usize) -> u8 {
     (i * 37 % 251) as u8 ^ 0x5A
 }

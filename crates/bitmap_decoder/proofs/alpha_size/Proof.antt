@@ -1,6 +1,6 @@
 -- `alpha_size`: the samples of the list of alpha planes, one or none. Assumes nothing.
 use native.Mathlib.Omega.{arith}
-use Rattle.rle_format.proofs.Plane.{area-most}
+use Rattle.rle_format.proofs.Plane.{area-max}
 use Rattle.bitmap_decoder.proofs.Pictures.{alpha-flagged, alpha-absent}
 use Rattle.bitmap_decoder.proofs.alpha_size.Statement.{statement}
 use Rattle.bitmap_decoder.proofs.alpha_size.Tie as tie
@@ -8,7 +8,7 @@ use Rattle.bitmap_decoder.proofs.alpha_size.Tie as tie
 mul-result : tie.Need-mul-result
 mul-result c =
     let s = (c .before) in
-    omega (arith, area-most (s .args .width) (s .args .height) (s .pre .0) (s .pre .1))
+    omega (arith, area-max (s .args .width) (s .args .height) (s .pre .0) (s .pre .1))
 
 returns : tie.Need-returns
 returns c = alpha-flagged _ _ _ (c .if1 .taken)

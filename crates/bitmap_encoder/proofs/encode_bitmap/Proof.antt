@@ -1,7 +1,7 @@
 -- `encode_bitmap`: the count goes out with the header record. Assumes nothing.
 use mathlib.Core.Bool.{false}
 use Rattle.bitmap_format.specs.PackPicture.{headerToSend}
-use Rattle.bitmap_encoder.proofs.Pictures.{sent-as}
+use Rattle.bitmap_encoder.proofs.Pictures.{encoded-with-header}
 use borrow.Author.Needs.{needs}
 use Rattle.bitmap_encoder.proofs.encode_bitmap.Statement.{statement}
 use Rattle.bitmap_encoder.proofs.encode_bitmap.Tie as tie
@@ -19,7 +19,7 @@ returns : tie.Need-returns
 returns c =
     let a = c .before .before .before .before .before .before .before .args in
     let p = c .before .before .before .encode-three in
-    (sent-as (headerToSend false (a .rle)) (c .encoded .result) (p .result) _ (c .encoded .ensures) (p .ensures .0), p .ensures .1)
+    (encoded-with-header (headerToSend false (a .rle)) (c .encoded .result) (p .result) _ (c .encoded .ensures) (p .ensures .0), p .ensures .1)
 
 pub encode-bitmap-spec : {M : Type 1} → statement M
 encode-bitmap-spec =

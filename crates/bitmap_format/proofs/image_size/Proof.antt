@@ -3,21 +3,21 @@ use Prim.Native.Nat.{ℕ}
 use borrow.Author.Tests.{not-true, not-false}
 use native.Mathlib.Omega.{arith}
 use mathlib.Core.Path.{sym, _∙_}
-use Rattle.rle_format.proofs.Sides.{Within, sides-in, sides-pass, sides-out}
+use Rattle.rle_format.proofs.Sides.{AllowedSides, allowed-sides, checkSides-passes, checkSides-refuses}
 use Rattle.bitmap_format.specs.Sizes.{imageSize}
 use Rattle.bitmap_format.proofs.Sizes.{product-fits}
 use borrow.Author.Needs.{needs}
 use Rattle.bitmap_format.proofs.image_size.Statement.{statement}
 use Rattle.bitmap_format.proofs.image_size.Tie as tie
 
-within : (k : tie.Else1) → Within (k .before .before .args .width) (k .before .before .args .height)
-within k = sides-in _ _ (sym (k .before .is-within .ensures) ∙ not-false _ (k .if1 .left))
+within : (k : tie.Else1) → AllowedSides (k .before .before .args .width) (k .before .before .args .height)
+within k = allowed-sides _ _ (sym (k .before .is-within .ensures) ∙ not-false _ (k .if1 .left))
 
 is-within-requires : tie.Need-is-within-requires
 is-within-requires c κs = search needs
 
 returns : tie.Need-returns
-returns c = let a = c .before .before .args in sym (sides-out 0 (a .width) (a .height) (imageSize (a .width) (a .height)) (sym (c .before .is-within .ensures) ∙ not-true _ (c .if1 .taken)))
+returns c = let a = c .before .before .args in sym (checkSides-refuses 0 (a .width) (a .height) (imageSize (a .width) (a .height)) (sym (c .before .is-within .ensures) ∙ not-true _ (c .if1 .taken)))
 
 mul-result : tie.Need-mul-result
 mul-result c = omega (arith, within c)
@@ -27,7 +27,7 @@ mul-result-2 c = product-fits (omega (arith, within c)) (omega (arith, within c)
 
 returns-2 : tie.Need-returns-2
 unfolding imageSize
-returns-2 c = let a = c .before .before .args in sym (sides-pass (λ (_ : ℕ). 0) (a .width) (a .height) (imageSize (a .width) (a .height)) (within c))
+returns-2 c = let a = c .before .before .args in sym (checkSides-passes (λ (_ : ℕ). 0) (a .width) (a .height) (imageSize (a .width) (a .height)) (within c))
 
 pub image-size-spec : {M : Type 1} → statement M
 image-size-spec = tie.close (tie.spec is-within-requires returns mul-result mul-result-2 returns-2)

@@ -3,15 +3,15 @@ use native.Mathlib.Omega.{arith}
 use mathlib.Core.Path.{sym, _∙_}
 use Prim.Native.Nat.{ℕ}
 use borrow.Author.Tests.{not-true, not-false}
-use Rattle.rle_format.proofs.Sides.{Within, sides-in, sides-pass, sides-out}
-use Rattle.bitmap_format.specs.Sizes.{leastBody}
-use Rattle.bitmap_format.proofs.Sizes.{body-alpha, body-plain}
+use Rattle.rle_format.proofs.Sides.{AllowedSides, allowed-sides, checkSides-passes, checkSides-refuses}
+use Rattle.bitmap_format.specs.Sizes.{minBodySize}
+use Rattle.bitmap_format.proofs.Sizes.{minBodySize-alpha, minBodySize-no-alpha}
 use borrow.Author.Needs.{needs}
 use Rattle.bitmap_format.proofs.min_body_size.Statement.{statement}
 use Rattle.bitmap_format.proofs.min_body_size.Tie as tie
 
-within : (k : tie.Else1) → Within (k .before .before .args .width) (k .before .before .args .height)
-within k = sides-in _ _ (sym (k .before .is-within .ensures) ∙ not-false _ (k .if1 .left))
+within : (k : tie.Else1) → AllowedSides (k .before .before .args .width) (k .before .before .args .height)
+within k = allowed-sides _ _ (sym (k .before .is-within .ensures) ∙ not-false _ (k .if1 .left))
 
 is-within-requires : tie.Need-is-within-requires
 is-within-requires c κs = search needs
@@ -19,7 +19,7 @@ is-within-requires c κs = search needs
 returns : tie.Need-returns
 returns c =
     let a = c .before .before .args in
-    sym (sides-out 0 (a .width) (a .height) (leastBody (a .header) (a .width) (a .height)) (sym (c .before .is-within .ensures) ∙ not-true _ (c .if1 .taken)))
+    sym (checkSides-refuses 0 (a .width) (a .height) (minBodySize (a .header) (a .width) (a .height)) (sym (c .before .is-within .ensures) ∙ not-true _ (c .if1 .taken)))
 
 has-subsampled-chroma-requires : tie.Need-has-subsampled-chroma-requires
 has-subsampled-chroma-requires c κs = search needs
@@ -38,16 +38,16 @@ returns-2 c =
     let k = c .before .before in
     let e = k .before .before in
     let a = e .before .before .args in
-    body-alpha (a .header) (a .width) (a .height) (k .before .has-subsampled-chroma .result) (k .before .has-subsampled-chroma .ensures) (c .min-plane-size .result) (k .min-color-planes-size .result) (c .before .if2 .taken) (c .min-plane-size .ensures .0) (k .min-color-planes-size .ensures .0)
-    ∙ sym (sides-pass (λ (_ : ℕ). 0) (a .width) (a .height) (leastBody (a .header) (a .width) (a .height)) (within e))
+    minBodySize-alpha (a .header) (a .width) (a .height) (k .before .has-subsampled-chroma .result) (k .before .has-subsampled-chroma .ensures) (c .min-plane-size .result) (k .min-color-planes-size .result) (c .before .if2 .taken) (c .min-plane-size .ensures .0) (k .min-color-planes-size .ensures .0)
+    ∙ sym (checkSides-passes (λ (_ : ℕ). 0) (a .width) (a .height) (minBodySize (a .header) (a .width) (a .height)) (within e))
 
 returns-3 : tie.Need-returns-3
 returns-3 c =
     let k = c .before in
     let e = k .before .before in
     let a = e .before .before .args in
-    body-plain (a .header) (a .width) (a .height) (k .before .has-subsampled-chroma .result) (k .before .has-subsampled-chroma .ensures) (k .min-color-planes-size .result) (c .if2 .left) (k .min-color-planes-size .ensures .0)
-    ∙ sym (sides-pass (λ (_ : ℕ). 0) (a .width) (a .height) (leastBody (a .header) (a .width) (a .height)) (within e))
+    minBodySize-no-alpha (a .header) (a .width) (a .height) (k .before .has-subsampled-chroma .result) (k .before .has-subsampled-chroma .ensures) (k .min-color-planes-size .result) (c .if2 .left) (k .min-color-planes-size .ensures .0)
+    ∙ sym (checkSides-passes (λ (_ : ℕ). 0) (a .width) (a .height) (minBodySize (a .header) (a .width) (a .height)) (within e))
 
 pub min-body-size-spec : {M : Type 1} → statement M
 min-body-size-spec =

@@ -3,15 +3,15 @@ use native.Mathlib.Omega.{arith}
 use mathlib.Core.Path.{sym, _∙_}
 use Prim.Native.Nat.{ℕ}
 use borrow.Author.Tests.{not-true, not-false}
-use Rattle.rle_format.proofs.Sides.{Within, sides-in, sides-pass, sides-out}
+use Rattle.rle_format.proofs.Sides.{AllowedSides, allowed-sides, checkSides-passes, checkSides-refuses}
 use Rattle.bitmap_format.specs.Sizes.{workSize}
-use Rattle.bitmap_format.proofs.Sizes.{work-rle, no-work}
+use Rattle.bitmap_format.proofs.Sizes.{workSize-colour, workSize-raw}
 use borrow.Author.Needs.{needs}
 use Rattle.bitmap_format.proofs.work_size.Statement.{statement}
 use Rattle.bitmap_format.proofs.work_size.Tie as tie
 
-within : (k : tie.Else1) → Within (k .before .before .args .width) (k .before .before .args .height)
-within k = sides-in _ _ (sym (k .before .is-within .ensures) ∙ not-false _ (k .if1 .left))
+within : (k : tie.Else1) → AllowedSides (k .before .before .args .width) (k .before .before .args .height)
+within k = allowed-sides _ _ (sym (k .before .is-within .ensures) ∙ not-false _ (k .if1 .left))
 
 is-within-requires : tie.Need-is-within-requires
 is-within-requires c κs = search needs
@@ -19,7 +19,7 @@ is-within-requires c κs = search needs
 returns : tie.Need-returns
 returns c =
     let a = c .before .before .args in
-    sym (sides-out 0 (a .width) (a .height) (workSize (a .header) (a .width) (a .height)) (sym (c .before .is-within .ensures) ∙ not-true _ (c .if1 .taken)))
+    sym (checkSides-refuses 0 (a .width) (a .height) (workSize (a .header) (a .width) (a .height)) (sym (c .before .is-within .ensures) ∙ not-true _ (c .if1 .taken)))
 
 has-subsampled-chroma-requires : tie.Need-has-subsampled-chroma-requires
 has-subsampled-chroma-requires c κs = search needs
@@ -31,13 +31,13 @@ returns-2 : tie.Need-returns-2
 returns-2 c =
     let t = c .before .before in
     let a = t .before .before .before .args in
-    work-rle (a .header) (a .width) (a .height) (c .before .has-subsampled-chroma .result) (c .before .has-subsampled-chroma .ensures) (c .min-color-planes-size .result) (t .if2 .taken) (c .min-color-planes-size .ensures .0)
-    ∙ sym (sides-pass (λ (_ : ℕ). 0) (a .width) (a .height) (workSize (a .header) (a .width) (a .height)) (within (t .before)))
+    workSize-colour (a .header) (a .width) (a .height) (c .before .has-subsampled-chroma .result) (c .before .has-subsampled-chroma .ensures) (c .min-color-planes-size .result) (t .if2 .taken) (c .min-color-planes-size .ensures .0)
+    ∙ sym (checkSides-passes (λ (_ : ℕ). 0) (a .width) (a .height) (workSize (a .header) (a .width) (a .height)) (within (t .before)))
 
 returns-3 : tie.Need-returns-3
 returns-3 c =
     let a = c .before .before .before .args in
-    sym (sides-pass (λ (_ : ℕ). 0) (a .width) (a .height) (workSize (a .header) (a .width) (a .height)) (within (c .before)) ∙ no-work (a .header) (a .width) (a .height) (c .if2 .left))
+    sym (checkSides-passes (λ (_ : ℕ). 0) (a .width) (a .height) (workSize (a .header) (a .width) (a .height)) (within (c .before)) ∙ workSize-raw (a .header) (a .width) (a .height) (c .if2 .left))
 
 pub work-size-spec : {M : Type 1} → statement M
 work-size-spec =

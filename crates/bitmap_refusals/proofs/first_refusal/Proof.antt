@@ -1,34 +1,34 @@
--- `first_refusal`: refusals 1 and 2 by the laws of the sides, the rest from `test_slices`. Assumes nothing.
-use Rattle.bitmap_format.specs.Picture.{tested}
+-- `first_refusal`: refusals 1 and 2 by the laws of the sides, the rest from `check_slices`. Assumes nothing.
+use Rattle.bitmap_format.specs.Picture.{checkPicture}
 use mathlib.Core.Path.{sym, _∙_}
-use Rattle.rle_format.proofs.Sides.{no-width, no-height, too-wide, too-high, in-sides}
+use Rattle.rle_format.proofs.Sides.{zero-width, zero-height, too-wide, too-high, sides-allowed}
 use borrow.Author.Needs.{needs}
 use Rattle.bitmap_refusals.proofs.first_refusal.Statement.{statement}
 use Rattle.bitmap_refusals.proofs.first_refusal.Tie as tie
 
 returns : tie.Need-returns
-unfolding tested
-returns c = sym (no-width _ _ _ _ (c .if1 .taken))
+unfolding checkPicture
+returns c = sym (zero-width _ _ _ _ (c .if1 .taken))
 
 returns-2 : tie.Need-returns-2
-unfolding tested
-returns-2 c = sym (no-height _ _ _ _ (c .before .if1 .left) (c .if2 .taken))
+unfolding checkPicture
+returns-2 c = sym (zero-height _ _ _ _ (c .before .if1 .left) (c .if2 .taken))
 
 returns-3 : tie.Need-returns-3
-unfolding tested
+unfolding checkPicture
 returns-3 c = sym (too-wide _ _ _ _ (c .before .before .if1 .left) (c .before .if2 .left) (c .if3 .taken))
 
 returns-4 : tie.Need-returns-4
-unfolding tested
+unfolding checkPicture
 returns-4 c = sym (too-high _ _ _ _ (c .before .before .before .if1 .left) (c .before .before .if2 .left) (c .before .if3 .left) (c .if4 .taken))
 
-test-slices-requires : tie.Need-test-slices-requires
-test-slices-requires c κs = search needs
+check-slices-requires : tie.Need-check-slices-requires
+check-slices-requires c κs = search needs
 
 returns-5 : tie.Need-returns-5
-unfolding tested
-returns-5 c = c .test-slices .ensures ∙ sym (in-sides _ _ _ _ (c .before .before .before .before .if1 .left) (c .before .before .before .if2 .left) (c .before .before .if3 .left) (c .before .if4 .left))
+unfolding checkPicture
+returns-5 c = c .check-slices .ensures ∙ sym (sides-allowed _ _ _ _ (c .before .before .before .before .if1 .left) (c .before .before .before .if2 .left) (c .before .before .if3 .left) (c .before .if4 .left))
 
 pub first-refusal-spec : {M : Type 1} → statement M
 first-refusal-spec =
-    tie.close (tie.spec returns returns-2 returns-3 returns-4 test-slices-requires returns-5)
+    tie.close (tie.spec returns returns-2 returns-3 returns-4 check-slices-requires returns-5)

@@ -3,9 +3,9 @@ use mathlib.Core.Path.{ap, _∙_}
 use native.Mathlib.Omega.{arith}
 use lib.ListN.{length}
 use Prim.Native.Nat.{ℕ, _-_, min}
-use Rattle.rle_format.proofs.Slice.{copied}
+use Rattle.rle_format.proofs.Slice.{copied-overwrite}
 use Rattle.pixel_format.specs.Channel.{samplesOf}
-use Rattle.pixel_format.proofs.Samples.{none-left, planar-count, planar-read, bgra-count, bgra-read}
+use Rattle.pixel_format.proofs.Samples.{read-past-end, planar-count, planar-read, bgra-count, bgra-read}
 use borrow.Author.Needs.{needs}
 use Rattle.pixel_format.proofs.read_samples.Statement.{statement}
 use Rattle.pixel_format.proofs.read_samples.Tie as tie
@@ -16,13 +16,13 @@ sample-count-requires c κs = search needs
 returns : tie.Need-returns
 returns c =
     let a = c .before .before .before .before .args in
-    none-left (a .dst .now) (samplesOf (a .layout) (a .channel) (a .src .now)) (a .from) (omega (arith, c .before .sample-count .ensures (a .channel)))
+    read-past-end (a .dst .now) (samplesOf (a .layout) (a .channel) (a .src .now)) (a .from) (omega (arith, c .before .sample-count .ensures (a .channel)))
 
-sub-least : tie.Need-sub-least
-sub-least c = search needs
+sub-lesser : tie.Need-sub-lesser
+sub-lesser c = search needs
 
-least-requires : tie.Need-least-requires
-least-requires c κs = search needs
+lesser-requires : tie.Need-lesser-requires
+lesser-requires c κs = search needs
 
 enum-told : tie.Need-enum-told
 enum-told c = search needs
@@ -41,7 +41,7 @@ part-copy-end c =
     let a = c .before .before .before .before .before .before .before .args in
     let n = c .before .before .before .before .sample-count .ensures (a .channel) in
     let m = planar-count (a .layout) (a .channel) (a .src .now) (c .enum-told .given .1) in
-    let e = c .before .before .least .ensures in
+    let e = c .before .before .lesser .ensures in
     omega arith
 
 copy-requires : tie.Need-copy-requires
@@ -50,16 +50,16 @@ copy-requires c κs = search needs
 enum-told-2 : tie.Need-enum-told-2
 enum-told-2 c = search needs
 
-place-of-requires : tie.Need-place-of-requires
-place-of-requires c κs = search needs
+offset-of-requires : tie.Need-offset-of-requires
+offset-of-requires c κs = search needs
 
 copy-channel-requires : tie.Need-copy-channel-requires
 copy-channel-requires c κs =
     let a = c .before .before .before .before .before .before .before .before .before .args in
     let n = c .before .before .before .before .before .before .sample-count .ensures (a .channel) in
     let m = bgra-count (a .layout) (a .channel) (a .src .now) (c .before .before .enum-told2 .given .1) in
-    let e = c .before .before .before .before .least .ensures in
-    (c .before .place-of .ensures .1, omega arith, omega arith)
+    let e = c .before .before .before .before .lesser .ensures in
+    (c .before .offset-of .ensures .1, omega arith, omega arith)
 
 same-length : tie.Need-same-length
 same-length c = search needs
@@ -67,10 +67,10 @@ same-length c = search needs
 returns-2 : tie.Need-returns-2
 returns-2 c =
     let a = c .before .before .before .before .before .before .before .before .before .before .before .before .args in
-    let l = c .before .before .before .before .before .before .before .least in
+    let l = c .before .before .before .before .before .before .before .lesser in
     let n = c .before .before .before .before .before .before .before .before .before .sample-count .ensures (a .channel) in
     planar-read (a .layout) (a .channel) (a .src .now) (a .dst .now) _ (a .from) (l .result) (l .ensures ∙ ap (λ (k : ℕ). min (k - a .from) (length (a .dst .now))) n) (c .before .before .before .before .before .enum-told .given .1)
-    (copied (a .dst .now) _ _ (c .before .before .copy .ensures .1))
+    (copied-overwrite (a .dst .now) _ _ (c .before .before .copy .ensures .1))
 
 same-length-2 : tie.Need-same-length-2
 same-length-2 c = search needs
@@ -79,7 +79,7 @@ returns-3 : tie.Need-returns-3
 returns-3 c =
     let a = c .before .before .before .before .before .before .before .before .before .before .before .before .args in
     let n = c .before .before .before .before .before .before .before .before .before .sample-count .ensures (a .channel) in
-    bgra-read (a .layout) (a .channel) (a .src .now) (a .dst .now) _ (a .from) (c .before .before .before .before .before .before .before .least .result) (c .before .before .before .before .before .before .before .least .ensures ∙ ap (λ (k : ℕ). min (k - a .from) (length (a .dst .now))) n) (c .before .before .before .before .place-of .result) (c .before .before .before .before .place-of .ensures .0) (c .before .before .before .before .before .enum-told2 .given .1) (c .before .before .copy-channel .ensures)
+    bgra-read (a .layout) (a .channel) (a .src .now) (a .dst .now) _ (a .from) (c .before .before .before .before .before .before .before .lesser .result) (c .before .before .before .before .before .before .before .lesser .ensures ∙ ap (λ (k : ℕ). min (k - a .from) (length (a .dst .now))) n) (c .before .before .before .before .offset-of .result) (c .before .before .before .before .offset-of .ensures .0) (c .before .before .before .before .before .enum-told2 .given .1) (c .before .before .copy-channel .ensures)
 
 pub read-samples-spec : {M : Type 1} → statement M
 read-samples-spec =
@@ -87,8 +87,8 @@ read-samples-spec =
     (tie.spec
     sample-count-requires
     returns
-    sub-least
-    least-requires
+    sub-lesser
+    lesser-requires
     enum-told
     add-copy
     sub-copy
@@ -96,7 +96,7 @@ read-samples-spec =
     part-copy-end
     copy-requires
     enum-told-2
-    place-of-requires
+    offset-of-requires
     copy-channel-requires
     same-length
     returns-2

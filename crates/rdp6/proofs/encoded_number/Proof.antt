@@ -5,10 +5,10 @@ use mir.Val.{SFits}
 use mir.Syntax.{w64}
 use native.Mathlib.Omega.{arith}
 use Rattle.rle_format.specs.Answer.{number}
-use Rattle.rle_format.proofs.Answer.{numbers-few}
+use Rattle.rle_format.proofs.Answer.{number-max}
 use Rattle.bitmap_format.specs.declared.Encoded.{Encoded}
-use Rattle.bitmap_format.specs.PackPicture.{toldEncoded}
-use Rattle.rdp6.specs.Number.{cNumber, answerOf}
+use Rattle.bitmap_format.specs.PackPicture.{encodedToAnswer}
+use Rattle.rdp6.specs.Number.{cNumber, dropHeader}
 use Rattle.rdp6.proofs.Numbers.{count-fits, refusal-fits}
 use borrow.Author.Needs.{needs}
 use Rattle.rdp6.proofs.encoded_number.Statement.{statement}
@@ -27,13 +27,13 @@ refusal-number-requires : tie.Need-refusal-number-requires
 refusal-number-requires c κs = search needs
 
 returns : tie.Need-returns
-returns c = toZ-pos w64 (omega (arith, c .before .before .before .pre _ _ (c .before .answer .given .1))) ∙ sym (ap (λ (a : Encoded). cNumber (answerOf (toldEncoded a))) (c .before .answer .given .1))
+returns c = toZ-pos w64 (omega (arith, c .before .before .before .pre _ _ (c .before .answer .given .1))) ∙ sym (ap (λ (a : Encoded). cNumber (dropHeader (encodedToAnswer a))) (c .before .answer .given .1))
 
 returns-2 : tie.Need-returns-2
 returns-2 c =
     let r = c .before .before .answer2 .given .0 .0 in
-    let f : SFits w64 (c .refusal-number .result) = rw (c .refusal-number .ensures) (refusal-fits (number r) (numbers-few r)) in
-    toZ-ofZ f ∙ c .refusal-number .ensures ∙ sym (ap (λ (a : Encoded). cNumber (answerOf (toldEncoded a))) (c .before .before .answer2 .given .1))
+    let f : SFits w64 (c .refusal-number .result) = rw (c .refusal-number .ensures) (refusal-fits (number r) (number-max r)) in
+    toZ-ofZ f ∙ c .refusal-number .ensures ∙ sym (ap (λ (a : Encoded). cNumber (dropHeader (encodedToAnswer a))) (c .before .before .answer2 .given .1))
 
 pub encoded-number-spec : {M : Type 1} → statement M
 encoded-number-spec =

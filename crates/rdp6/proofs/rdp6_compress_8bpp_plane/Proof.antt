@@ -7,10 +7,10 @@ use mir.Facts.{toZ-ofZ}
 use mir.Val.{SFits}
 use mir.Syntax.{w64}
 use Rattle.rle_format.specs.declared.Packed.the-variants.{Written}
-use Rattle.rle_format.specs.Answer.{toldPacked}
-use Rattle.rle_format.proofs.Plane.{area-most}
-use Rattle.rle_format.proofs.PackPlane.{packed-whole}
-use Rattle.rle_format.proofs.PackingSize.{packing-most}
+use Rattle.rle_format.specs.Answer.{packedToAnswer}
+use Rattle.rle_format.proofs.Plane.{area-max}
+use Rattle.rle_format.proofs.PackPlane.{packed-complete}
+use Rattle.rle_format.proofs.PackingSize.{packing-size-max}
 use Rattle.rdp6.specs.Number.{cNumber}
 use Rattle.rdp6.proofs.Numbers.{packed-fits}
 use borrow.Author.Needs.{needs}
@@ -21,8 +21,8 @@ use Rattle.rdp6.proofs.rdp6_compress_8bpp_plane.Tie as tie
 few : (c : tie.After-compress-8bpp-plane) (n : ℕ) → c .compress-8bpp-plane .result ≡ Written n → n ≤ 134217728
 few c n e =
     let a = c .before .before .before .before .args in
-    let w = packed-whole (a .width) (a .height) (length (a .dst .now)) (a .src .now) n (sym (c .compress-8bpp-plane .ensures .0) ∙ ap toldPacked e) in
-    omega (arith, w .size, packing-most (a .width) (a .height) (a .src .now), area-most (a .width) (a .height) (w .wide .1) (w .high .1))
+    let w = packed-complete (a .width) (a .height) (length (a .dst .now)) (a .src .now) n (sym (c .compress-8bpp-plane .ensures .0) ∙ ap packedToAnswer e) in
+    omega (arith, w .size, packing-size-max (a .width) (a .height) (a .src .now), area-max (a .width) (a .height) (w .wide .1) (w .high .1))
 
 compress-8bpp-plane-requires : tie.Need-compress-8bpp-plane-requires
 compress-8bpp-plane-requires c κs = search needs

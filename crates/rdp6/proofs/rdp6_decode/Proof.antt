@@ -6,8 +6,8 @@ use mir.Val.{SFits}
 use mir.Syntax.{w64}
 use Rattle.bitmap_format.specs.declared.BitmapStreamHeader.{BitmapStreamHeader}
 use Rattle.bitmap_format.specs.declared.Decoded.the-variants.{Written}
-use Rattle.bitmap_format.specs.Picture.{unpackPicture, toldDecoded}
-use Rattle.bitmap_format.proofs.Picture.{written-few}
+use Rattle.bitmap_format.specs.Picture.{unpackPicture, decodedToAnswer}
+use Rattle.bitmap_format.proofs.Picture.{image-count-max}
 use Rattle.rdp6.specs.Number.{cNumber}
 use Rattle.rdp6.proofs.Numbers.{decoded-fits}
 use borrow.Author.Needs.{needs}
@@ -18,7 +18,7 @@ use Rattle.rdp6.proofs.rdp6_decode.Tie as tie
 few : (c : tie.After-decode) (n : ℕ) → c .decode .result ≡ Written n → n ≤ 201326592
 few c n e =
     let a = c .before .before .before .before .before .before .before .args in
-    written-few (c .before .before .before .header-of .result) (a .width) (a .height) (a .body .now) (a .work .now) (a .image .now) n (sym (c .decode .ensures .0) ∙ ap toldDecoded e)
+    image-count-max (c .before .before .before .header-of .result) (a .width) (a .height) (a .body .now) (a .work .now) (a .image .now) n (sym (c .decode .ensures .0) ∙ ap decodedToAnswer e)
 
 header-of-requires : tie.Need-header-of-requires
 header-of-requires c κs = search needs

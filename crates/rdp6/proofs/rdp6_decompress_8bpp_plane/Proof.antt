@@ -5,8 +5,8 @@ use lib.ListN.{length}
 use mir.Facts.{toZ-ofZ}
 use mir.Val.{SFits}
 use mir.Syntax.{w64}
-use Rattle.rle_format.specs.Answer.{told}
-use Rattle.rle_format.proofs.Plane.{read-few}
+use Rattle.rle_format.specs.Answer.{toAnswer}
+use Rattle.rle_format.proofs.Plane.{read-count-max}
 use Rattle.rdp6.specs.Number.{cNumber}
 use Rattle.rdp6.proofs.Numbers.{unpacked-fits}
 use Rattle.rle_format.specs.declared.Unpacked.the-variants.{Read}
@@ -18,7 +18,7 @@ use Rattle.rdp6.proofs.rdp6_decompress_8bpp_plane.Tie as tie
 few : (c : tie.After-decompress-8bpp-plane) (n : ℕ) → c .decompress-8bpp-plane .result ≡ Read n → n ≤ 134217728
 few c n e =
     let a = c .before .before .before .before .args in
-    read-few (a .width) (a .height) (length (a .dst .now)) (a .src .now) n (sym (c .decompress-8bpp-plane .ensures .0) ∙ ap told e)
+    read-count-max (a .width) (a .height) (length (a .dst .now)) (a .src .now) n (sym (c .decompress-8bpp-plane .ensures .0) ∙ ap toAnswer e)
 
 decompress-8bpp-plane-requires : tie.Need-decompress-8bpp-plane-requires
 decompress-8bpp-plane-requires c κs = search needs

@@ -9,22 +9,22 @@ use mir.Syntax.{w64}
 use Rattle.pixel_format.specs.Channel.{bgrA}
 use Rattle.bitmap_format.specs.declared.BitmapStreamHeader.{BitmapStreamHeader}
 use Rattle.bitmap_format.specs.declared.Encoded.the-variants.{Written}
-use Rattle.bitmap_format.specs.PackPicture.{pixelPlanes, packPicture, toldEncoded}
-use Rattle.rdp6.specs.Number.{cNumber, answerOf}
-use Rattle.rdp6.proofs.Numbers.{encoded-fits, answer-sent, encoded-few}
+use Rattle.bitmap_format.specs.PackPicture.{pixelPlanes, packPicture, encodedToAnswer}
+use Rattle.rdp6.specs.Number.{cNumber, dropHeader}
+use Rattle.rdp6.proofs.Numbers.{encoded-fits, answer-without-header, encoded-count-max}
 use borrow.Author.Needs.{needs}
 use Rattle.rdp6.proofs.rdp6_encode_bitmap.Statement.{statement}
 use Rattle.rdp6.proofs.rdp6_encode_bitmap.Tie as tie
 
 -- the entry's answer, without the header record
-answered : (c : tie.After-encode-bitmap) → let a = c .before .before .before .before .args in answerOf (toldEncoded (c .encode-bitmap .result)) ≡ packPicture (a .rle) (a .width) (a .height) (length (a .dst .now)) (pixelPlanes bgrA (a .src .now)) .answer
-answered c = answer-sent (c .encode-bitmap .result) _ _ (c .encode-bitmap .ensures .0)
+answered : (c : tie.After-encode-bitmap) → let a = c .before .before .before .before .args in dropHeader (encodedToAnswer (c .encode-bitmap .result)) ≡ packPicture (a .rle) (a .width) (a .height) (length (a .dst .now)) (pixelPlanes bgrA (a .src .now)) .answer
+answered c = answer-without-header (c .encode-bitmap .result) _ _ (c .encode-bitmap .ensures .0)
 
 -- a picture that was packed has fewer bytes than a slice can have
 few : (c : tie.After-encode-bitmap) (n : ℕ) (header : BitmapStreamHeader) → c .encode-bitmap .result ≡ Written n header → n < 9223372036854775808
 few c =
     let s = c .before .before .before .before in
-    encoded-few _ _ _ _ _ (c .encode-bitmap .result) (answered c) (omega (arith, s .good .1 .0 .1))
+    encoded-count-max _ _ _ _ _ (c .encode-bitmap .result) (answered c) (omega (arith, s .good .1 .0 .1))
 
 encode-bitmap-requires : tie.Need-encode-bitmap-requires
 encode-bitmap-requires c κs = search needs

@@ -9,22 +9,22 @@ use mir.Syntax.{w64}
 use Rattle.pixel_format.specs.Channel.{bgrA}
 use Rattle.bitmap_format.specs.declared.BitmapStreamHeader.{BitmapStreamHeader}
 use Rattle.bitmap_format.specs.declared.Encoded.the-variants.{Written}
-use Rattle.bitmap_format.specs.PackPicture.{pixelPlanesAlpha, packPicture, toldEncoded}
-use Rattle.rdp6.specs.Number.{cNumber, answerOf}
-use Rattle.rdp6.proofs.Numbers.{encoded-fits, answer-sent, encoded-few}
+use Rattle.bitmap_format.specs.PackPicture.{pixelPlanesAlpha, packPicture, encodedToAnswer}
+use Rattle.rdp6.specs.Number.{cNumber, dropHeader}
+use Rattle.rdp6.proofs.Numbers.{encoded-fits, answer-without-header, encoded-count-max}
 use borrow.Author.Needs.{needs}
 use Rattle.rdp6.proofs.rdp6_encode_bitmap_alpha.Statement.{statement}
 use Rattle.rdp6.proofs.rdp6_encode_bitmap_alpha.Tie as tie
 
 -- the entry's answer, without the header record
-answered : (c : tie.After-encode-bitmap-alpha) → let a = c .before .before .before .before .args in answerOf (toldEncoded (c .encode-bitmap-alpha .result)) ≡ packPicture (a .rle) (a .width) (a .height) (length (a .dst .now)) (pixelPlanesAlpha bgrA (a .src .now)) .answer
-answered c = answer-sent (c .encode-bitmap-alpha .result) _ _ (c .encode-bitmap-alpha .ensures .0)
+answered : (c : tie.After-encode-bitmap-alpha) → let a = c .before .before .before .before .args in dropHeader (encodedToAnswer (c .encode-bitmap-alpha .result)) ≡ packPicture (a .rle) (a .width) (a .height) (length (a .dst .now)) (pixelPlanesAlpha bgrA (a .src .now)) .answer
+answered c = answer-without-header (c .encode-bitmap-alpha .result) _ _ (c .encode-bitmap-alpha .ensures .0)
 
 -- a picture that was packed has fewer bytes than a slice can have
 few : (c : tie.After-encode-bitmap-alpha) (n : ℕ) (header : BitmapStreamHeader) → c .encode-bitmap-alpha .result ≡ Written n header → n < 9223372036854775808
 few c =
     let s = c .before .before .before .before in
-    encoded-few _ _ _ _ _ (c .encode-bitmap-alpha .result) (answered c) (omega (arith, s .good .1 .0 .1))
+    encoded-count-max _ _ _ _ _ (c .encode-bitmap-alpha .result) (answered c) (omega (arith, s .good .1 .0 .1))
 
 encode-bitmap-alpha-requires : tie.Need-encode-bitmap-alpha-requires
 encode-bitmap-alpha-requires c κs = search needs

@@ -8,22 +8,22 @@ use mir.Val.{SFits}
 use mir.Syntax.{w64}
 use Rattle.bitmap_format.specs.declared.BitmapStreamHeader.{BitmapStreamHeader}
 use Rattle.bitmap_format.specs.declared.Encoded.the-variants.{Written}
-use Rattle.bitmap_format.specs.PackPicture.{threePlanes, packPicture, toldEncoded}
-use Rattle.rdp6.specs.Number.{cNumber, answerOf}
-use Rattle.rdp6.proofs.Numbers.{encoded-fits, answer-sent, encoded-few}
+use Rattle.bitmap_format.specs.PackPicture.{threePlanes, packPicture, encodedToAnswer}
+use Rattle.rdp6.specs.Number.{cNumber, dropHeader}
+use Rattle.rdp6.proofs.Numbers.{encoded-fits, answer-without-header, encoded-count-max}
 use borrow.Author.Needs.{needs}
 use Rattle.rdp6.proofs.rdp6_encode_channels_stream.Statement.{statement}
 use Rattle.rdp6.proofs.rdp6_encode_channels_stream.Tie as tie
 
 -- the entry's answer, without the header record
-answered : (c : tie.After-encode-channels-stream) → let a = c .before .before .before .before .before .before .args in answerOf (toldEncoded (c .encode-channels-stream .result)) ≡ packPicture (a .rle) (a .width) (a .height) (length (a .dst .now)) (threePlanes (a .r .now) (a .g .now) (a .b .now)) .answer
-answered c = answer-sent (c .encode-channels-stream .result) _ _ (c .encode-channels-stream .ensures .0)
+answered : (c : tie.After-encode-channels-stream) → let a = c .before .before .before .before .before .before .args in dropHeader (encodedToAnswer (c .encode-channels-stream .result)) ≡ packPicture (a .rle) (a .width) (a .height) (length (a .dst .now)) (threePlanes (a .r .now) (a .g .now) (a .b .now)) .answer
+answered c = answer-without-header (c .encode-channels-stream .result) _ _ (c .encode-channels-stream .ensures .0)
 
 -- a picture that was packed has fewer bytes than a slice can have
 few : (c : tie.After-encode-channels-stream) (n : ℕ) (header : BitmapStreamHeader) → c .encode-channels-stream .result ≡ Written n header → n < 9223372036854775808
 few c =
     let s = c .before .before .before .before .before .before in
-    encoded-few _ _ _ _ _ (c .encode-channels-stream .result) (answered c) (omega (arith, s .good .1 .1 .1 .0 .1))
+    encoded-count-max _ _ _ _ _ (c .encode-channels-stream .result) (answered c) (omega (arith, s .good .1 .1 .1 .0 .1))
 
 encode-channels-stream-requires : tie.Need-encode-channels-stream-requires
 encode-channels-stream-requires c κs = search needs

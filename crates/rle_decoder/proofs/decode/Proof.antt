@@ -1,8 +1,8 @@
 -- `decode`: the first row, and then the rows below it. Assumes nothing.
 use mathlib.Core.Path.{sym, ap, _∙_}
 use native.Mathlib.Omega.{arith}
-use Rattle.rle_format.specs.Answer.{number, told}
-use Rattle.rle_decoder.proofs.Rows.{first-room, first-stop, first-read, first-turn}
+use Rattle.rle_format.specs.Answer.{number, toAnswer}
+use Rattle.rle_decoder.proofs.RowsLoop.{first-row-room, first-row-refused, first-row-read, first-row-step}
 use borrow.Author.Needs.{needs}
 use Rattle.rle_decoder.proofs.decode.Statement.{statement}
 use Rattle.rle_decoder.proofs.decode.Tie as tie
@@ -10,7 +10,7 @@ use Rattle.rle_decoder.proofs.decode.Tie as tie
 decode-scanline-requires : tie.Need-decode-scanline-requires
 decode-scanline-requires c κs =
     let s = c .before .before .before in
-    omega (arith, first-room (s .args .width) (s .args .height) (s .pre .0))
+    omega (arith, first-row-room (s .args .width) (s .args .height) (s .pre .0))
 
 enum-known-first : tie.Need-enum-known-first
 enum-known-first c = search needs
@@ -27,7 +27,7 @@ returns c =
     let s = d .before .before .before .before in
     let a = s .args in
     let e = d .decode-scanline .ensures in
-    let r = first-stop (a .src .now) (a .dst .now) (d .decode-scanline .last .1 .1 .0) (a .width) (a .height) (s .pre .0) (e .1) (number (c .enum-told .given .0 .0)) (sym (e .0) ∙ ap told (c .enum-told .given .1)) in
+    let r = first-row-refused (a .src .now) (a .dst .now) (d .decode-scanline .last .1 .1 .0) (a .width) (a .height) (s .pre .0) (e .1) (number (c .enum-told .given .0 .0)) (sym (e .0) ∙ ap toAnswer (c .enum-told .given .1)) in
     (e .0 ∙ r .0, r .1)
 
 sub-decode-rows-below : tie.Need-sub-decode-rows-below
@@ -40,8 +40,8 @@ decode-rows-below-requires c κs =
     let s = d .before .before .before .before in
     let a = s .args in
     let e = d .decode-scanline .ensures in (
-      omega (arith, first-room (a .width) (a .height) (s .pre .0), d .decode-scanline .kept .1 .1 .0),
-      first-read (a .src .now) (a .dst .now) (d .decode-scanline .last .1 .1 .0) (a .width) (a .height) (s .pre .0) (e .1) (f .first .given .0 .0) (sym (e .0) ∙ ap told (f .first .given .1)),
+      omega (arith, first-row-room (a .width) (a .height) (s .pre .0), d .decode-scanline .kept .1 .1 .0),
+      first-row-read (a .src .now) (a .dst .now) (d .decode-scanline .last .1 .1 .0) (a .width) (a .height) (s .pre .0) (e .1) (f .first .given .0 .0) (sym (e .0) ∙ ap toAnswer (f .first .given .1)),
     )
 
 same-length-2 : tie.Need-same-length-2
@@ -55,8 +55,8 @@ returns-2 c =
     let s = d .before .before .before .before in
     let a = s .args in
     let e = d .decode-scanline .ensures in
-    (first-turn (a .src .now) (a .dst .now) (d .decode-scanline .last .1 .1 .0) (a .width) (a .height) (s .pre .0) (e .1) (f .first .given .0 .0) (sym (e .0) ∙ ap told (f .first .given .1))
-    (b .last .1 .1 .0) (told (b .result)) (b .ensures .0) (b .ensures .1))
+    (first-row-step (a .src .now) (a .dst .now) (d .decode-scanline .last .1 .1 .0) (a .width) (a .height) (s .pre .0) (e .1) (f .first .given .0 .0) (sym (e .0) ∙ ap toAnswer (f .first .given .1))
+    (b .last .1 .1 .0) (toAnswer (b .result)) (b .ensures .0) (b .ensures .1))
 
 pub decode-spec : {M : Type 1} → statement M
 decode-spec =

@@ -1,34 +1,34 @@
--- `decode_rows_below`: a turn of its loop is a row; the invariant is `RowsHead` of Rows.antt, whose laws answer the needs.
+-- `decode_rows_below`: an iteration of its loop is a row; the invariant is `RowsInvariant` of RowsLoop.antt, whose laws prove it.
 -- Assumes nothing.
-use Rattle.rle_decoder.proofs.Rows.{RowsHead, rows-first, rows-end, one-left, within, rows-stop, rows-turn}
+use Rattle.rle_decoder.proofs.RowsLoop.{RowsInvariant, rows-start, rows-end, rows-one-left, within, rows-refused, rows-step}
 use mathlib.Core.Path.{sym, ap, _∙_}
 use Prim.Native.Nat.{suc, _+_, _-_, _≤_}
 use native.Mathlib.Omega.{arith}
 use borrow.Author.Needs.{needs}
 use lib.ListN.{length, length-take, length-drop}
-use Rattle.rle_format.proofs.Slice.{tail-room, put-back}
-use Rattle.rle_format.specs.Answer.{number, told}
+use Rattle.rle_format.proofs.Slice.{suffix-room, replaceSuffix}
+use Rattle.rle_format.specs.Answer.{number, toAnswer}
 use native.Mathlib.Nat.{suc-mul}
 use Rattle.rle_decoder.proofs.decode_rows_below.Statement.{statement}
 use Rattle.rle_decoder.proofs.decode_rows_below.Tie as tie
 
 abbrev Inv-loop : tie.InvT-loop
-Inv-loop src from dst₀ width rows at₀ above₀ left₀ dst at above left = RowsHead src dst₀ dst width rows from at above left
+Inv-loop src from dst₀ width rows at₀ above₀ left₀ dst at above left = RowsInvariant src dst₀ dst width rows from at above left
 
 abbrev μ-loop : tie.MeasureT-loop
 μ-loop src from dst₀ width rows at₀ above₀ left₀ dst at above left = left
 
 -- in a turn a row is left, and there is room for it
 head : (c : tie.In-loop Inv-loop μ-loop)
-    → RowsHead (c .before .before .before .before .args .src .now) (c .before .before .before .before .args .dst .now) (c .before .loop .dst) (c .before .before .before .before .args .width)
+    → RowsInvariant (c .before .before .before .before .args .src .now) (c .before .before .before .before .args .dst .now) (c .before .loop .dst) (c .before .before .before .before .args .width)
     (c .before .before .before .before .args .rows) (c .before .before .before .before .args .from) (c .before .loop .at) (c .before .loop .above) (suc (c .before .loop .left - 1))
-head c = one-left _ _ _ _ _ _ _ _ _ (c .before .loop .inv) (c .loop-test .taken)
+head c = rows-one-left _ _ _ _ _ _ _ _ _ (c .before .loop .inv) (c .loop-test .taken)
 
 room : (c : tie.In-loop Inv-loop μ-loop) → c .before .loop .above + c .before .before .before .before .args .width + c .before .before .before .before .args .width ≤ length (c .before .before .before .before .args .dst .now)
 room c = omega (arith, suc-mul (c .before .loop .left - 1) (c .before .before .before .before .args .width), head c .room)
 
 loop-holds : tie.Need-loop-holds Inv-loop μ-loop
-loop-holds c = rows-first _ _ _ _ _ (c .before .before .pre .0) (c .before .before .pre .1)
+loop-holds c = rows-start _ _ _ _ _ (c .before .before .pre .0) (c .before .before .pre .1)
 
 add-start : tie.Need-add-start Inv-loop μ-loop
 add-start c = omega arith
@@ -61,8 +61,8 @@ returns c =
     let l = i .before .loop in
     let a = i .before .before .before .before .args in
     let e = d .decode-scanline .ensures in
-    let s = rows-stop (a .src .now) (a .dst .now) (l .dst) (a .width) (a .rows) (a .from) (l .at) (l .above) (l .left - 1) (head i) (d .decode-scanline .last .1 .1 .0) (e .1)
-    (number (c .enum-told .given .0 .0)) (sym (e .0) ∙ ap told (c .enum-told .given .1)) in
+    let s = rows-refused (a .src .now) (a .dst .now) (l .dst) (a .width) (a .rows) (a .from) (l .at) (l .above) (l .left - 1) (head i) (d .decode-scanline .last .1 .1 .0) (e .1)
+    (number (c .enum-told .given .0 .0)) (sym (e .0) ∙ ap toAnswer (c .enum-told .given .1)) in
     (e .0 ∙ s .0, s .1)
 
 sub-resolve-scanline-delta : tie.Need-sub-resolve-scanline-delta Inv-loop μ-loop
@@ -80,7 +80,7 @@ resolve-scanline-delta-requires c κs =
     let i = d .before .before in
     let l = i .before .loop in
     let a = i .before .before .before .before .args in
-    tail-room (put-back (l .dst) (l .above + a .width) (d .decode-scanline .last .1 .1 .0)) (l .above) (a .width + a .width) (omega (arith, room i, c .before .before .before .before .before .dst .given .1, l .inv .len))
+    suffix-room (replaceSuffix (l .dst) (l .above + a .width) (d .decode-scanline .last .1 .1 .0)) (l .above) (a .width + a .width) (omega (arith, room i, c .before .before .before .before .before .dst .given .1, l .inv .len))
 
 add-at : tie.Need-add-at Inv-loop μ-loop
 add-at c =
@@ -93,7 +93,7 @@ add-at c =
     omega (
       arith,
       within (a .src .now) (a .dst .now) (l .dst) (a .width) (a .rows) (a .from) (l .at) (l .above) (l .left - 1) (head i) (d .decode-scanline .last .1 .1 .0) (e .1)
-          (g .answer .given .0 .0) (sym (e .0) ∙ ap told (g .answer .given .1)),
+          (g .answer .given .0 .0) (sym (e .0) ∙ ap toAnswer (g .answer .given .1)),
     )
 
 sub-left : tie.Need-sub-left Inv-loop μ-loop
@@ -111,8 +111,8 @@ loop-again c =
     let l = i .before .loop in
     let a = i .before .before .before .before .args in
     let e = d .decode-scanline .ensures in
-    rows-turn (a .src .now) (a .dst .now) (l .dst) (a .width) (a .rows) (a .from) (l .at) (l .above) (l .left - 1) (head i) (d .decode-scanline .last .1 .1 .0) (e .1)
-    (g .answer .given .0 .0) (sym (e .0) ∙ ap told (g .answer .given .1)) (r .last .0) (r .ensures)
+    rows-step (a .src .now) (a .dst .now) (l .dst) (a .width) (a .rows) (a .from) (l .at) (l .above) (l .left - 1) (head i) (d .decode-scanline .last .1 .1 .0) (e .1)
+    (g .answer .given .0 .0) (sym (e .0) ∙ ap toAnswer (g .answer .given .1)) (r .last .0) (r .ensures)
 
 same-length-2 : tie.Need-same-length-2 Inv-loop μ-loop
 same-length-2 c = omega arith

@@ -3,32 +3,32 @@ use mathlib.Core.Path.{sym, ap, _∙_}
 use native.Mathlib.Omega.{arith}
 use lib.ListN.{length}
 use Rattle.rle_format.specs.Answer.{Outcome}
-use Rattle.rle_format.specs.Slice.{over}
-use Rattle.rle_format.proofs.Plane.{area-most, plane-no-width, plane-no-height, plane-wide, plane-high, plane-short, plane-rows}
-use Rattle.rle_format.proofs.Outcome.{none-written}
+use Rattle.rle_format.specs.Slice.{overwrite}
+use Rattle.rle_format.proofs.Plane.{area-max, plane-zero-width, plane-zero-height, plane-too-wide, plane-too-high, plane-short-destination, plane-rows}
+use Rattle.rle_format.proofs.Outcome.{stop-writes-nothing}
 use borrow.Author.Needs.{needs}
 use Rattle.rle_decoder.proofs.decompress_8bpp_plane.Statement.{statement}
 use Rattle.rle_decoder.proofs.decompress_8bpp_plane.Tie as tie
 
 returns : tie.Need-returns
-returns c = none-written _ _ _ (plane-no-width _ _ _ _ (c .if1 .taken))
+returns c = stop-writes-nothing _ _ _ (plane-zero-width _ _ _ _ (c .if1 .taken))
 
 returns-2 : tie.Need-returns-2
-returns-2 c = none-written _ _ _ (plane-no-height _ _ _ _ (c .before .if1 .left) (c .if2 .taken))
+returns-2 c = stop-writes-nothing _ _ _ (plane-zero-height _ _ _ _ (c .before .if1 .left) (c .if2 .taken))
 
 returns-3 : tie.Need-returns-3
-returns-3 c = none-written _ _ _ (plane-wide _ _ _ _ (c .before .before .if1 .left) (c .before .if2 .left) (c .if3 .taken))
+returns-3 c = stop-writes-nothing _ _ _ (plane-too-wide _ _ _ _ (c .before .before .if1 .left) (c .before .if2 .left) (c .if3 .taken))
 
 returns-4 : tie.Need-returns-4
-returns-4 c = none-written _ _ _ (plane-high _ _ _ _ (c .before .before .before .if1 .left) (c .before .before .if2 .left) (c .before .if3 .left) (c .if4 .taken))
+returns-4 c = stop-writes-nothing _ _ _ (plane-too-high _ _ _ _ (c .before .before .before .if1 .left) (c .before .before .if2 .left) (c .before .if3 .left) (c .if4 .taken))
 
 mul-if5 : tie.Need-mul-if5
 mul-if5 c =
     let a = c .before .before .before .before .before .before .args in
-    omega (arith, area-most (a .width) (a .height) (c .before .if3 .left) (c .if4 .left))
+    omega (arith, area-max (a .width) (a .height) (c .before .if3 .left) (c .if4 .left))
 
 returns-5 : tie.Need-returns-5
-returns-5 c = none-written _ _ _ (plane-short _ _ _ _ (c .before .before .before .before .if1 .left) (c .before .before .before .if2 .left) (c .before .before .if3 .left) (c .before .if4 .left) (c .if5 .taken))
+returns-5 c = stop-writes-nothing _ _ _ (plane-short-destination _ _ _ _ (c .before .before .before .before .if1 .left) (c .before .before .before .if2 .left) (c .before .before .if3 .left) (c .before .if4 .left) (c .if5 .taken))
 
 decode-requires : tie.Need-decode-requires
 decode-requires c κs = search needs
@@ -42,7 +42,7 @@ returns-6 c =
     let k = c .before .before .before .before in
     let a = k .before .before .before .before .before .before .before .args in
     let e = plane-rows (a .width) (a .height) (length (a .dst .now)) (a .src .now) (k .before .before .before .before .if1 .left) (k .before .before .before .if2 .left) (k .before .before .if3 .left) (k .before .if4 .left) (k .if5 .left) in
-    (r .ensures .0 ∙ sym (ap (λ (u : Outcome). u .answer) e), r .ensures .1 ∙ sym (ap (λ (u : Outcome). over (a .dst .now) (u .written)) e))
+    (r .ensures .0 ∙ sym (ap (λ (u : Outcome). u .answer) e), r .ensures .1 ∙ sym (ap (λ (u : Outcome). overwrite (a .dst .now) (u .written)) e))
 
 pub decompress-8bpp-plane-spec : {M : Type 1} → statement M
 decompress-8bpp-plane-spec =

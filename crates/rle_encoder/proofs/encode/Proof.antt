@@ -6,10 +6,10 @@ use native.Mathlib.Omega.{arith}
 use borrow.Author.Needs.{needs}
 use lib.ListN.{length}
 use Rattle.rle_format.specs.Pack.{rowSegments, codesAt, planeSegments}
-use Rattle.rle_format.proofs.Plane.{area-most}
+use Rattle.rle_format.proofs.Plane.{area-max}
 use Rattle.pixel_format.specs.Channel.{samplesOf}
-use Rattle.rle_format.proofs.Head.{WriteHead, head-first, head-rest, head-turn, head-stop, head-done, wrote-from-0}
-use Rattle.rle_encoder.proofs.Rows.{rowsFrom, rows-all, rows-more, rows-none, with-first, length-first, length-with-first, HasRowAbove, RowCoded, row-end, row-coded, row-wrote}
+use Rattle.rle_format.proofs.WriteLoop.{WriteInvariant, write-start, write-same-rest, write-next, write-stop, write-end, wrote-from-0}
+use Rattle.rle_encoder.proofs.Rows.{segmentsFromRow, segmentsFromRow-0, segmentsFromRow-step, segmentsFromRow-end, replacePrefix, length-arrayPrefix, length-replacePrefix, HasRowAbove, RowCoded, row-within, row-coded, row-written}
 use Rattle.rle_encoder.proofs.encode.Statement.{statement}
 use Rattle.rle_encoder.proofs.encode.Tie as tie
 
@@ -19,7 +19,7 @@ Inv-loop src layout channel dst₀ width height above₀ codes₀ to₀ r₀ dst
     × (length above ≡ 8192)
     × (length codes ≡ 8192)
     × HasRowAbove width (samplesOf layout channel src) r above
-    × WriteHead (planeSegments width height (samplesOf layout channel src)) (rowsFrom width (samplesOf layout channel src) r (height - r)) dst₀ dst 0 to
+    × WriteInvariant (planeSegments width height (samplesOf layout channel src)) (segmentsFromRow width (samplesOf layout channel src) r (height - r)) dst₀ dst 0 to
 
 abbrev μ-loop : tie.MeasureT-loop
 μ-loop src layout channel dst₀ width height above₀ codes₀ to₀ r₀ dst above codes to r = height - r
@@ -29,8 +29,8 @@ row-is : (c : tie.After-code-scanline Inv-loop μ-loop) →
     let l = c .before .before .before .before .before .before .before .loop in
     let a = c .before .before .before .before .before .before .before .before .before .before .args in
     let got = c .before .before .before .before .read-samples .last .1 .1 .1 .1 .0 in
-    RowCoded (a .width) 8192 (samplesOf (a .layout) (a .channel) (a .src .now)) (l .r) (with-first (l .above) (a .width) (c .code-scanline .last .1 .0))
-    (with-first (with-first (l .codes) (a .width) got) (a .width) (c .code-scanline .last .1 .1 .0))
+    RowCoded (a .width) 8192 (samplesOf (a .layout) (a .channel) (a .src .now)) (l .r) (replacePrefix (l .above) (a .width) (c .code-scanline .last .1 .0))
+    (replacePrefix (replacePrefix (l .codes) (a .width) got) (a .width) (c .code-scanline .last .1 .1 .0))
 row-is c =
     let l = c .before .before .before .before .before .before .before .loop in
     let a = c .before .before .before .before .before .before .before .before .before .before .args in
@@ -38,7 +38,7 @@ row-is c =
     let code = c .code-scanline in
     let samples = samplesOf (a .layout) (a .channel) (a .src .now) in
     row-coded (a .width) 8192 samples (l .r) (l .above) (l .codes) (read .last .1 .1 .1 .1 .0) (code .last .1 .1 .0) (code .last .1 .0) (omega arith) (l .inv .1) (l .inv .2)
-    (omega (arith, row-end (l .r) (a .width) (a .height) (omega arith))) (l .inv .3) (read .ensures) (code .ensures .0) (code .ensures .1)
+    (omega (arith, row-within (l .r) (a .width) (a .height) (omega arith))) (l .inv .3) (read .ensures) (code .ensures .0) (code .ensures .1)
 
 loop-holds : tie.Need-loop-holds Inv-loop μ-loop
 loop-holds c =
@@ -48,11 +48,11 @@ loop-holds c =
       refl,
       refl,
       (λ h. absurd (omega arith)),
-      head-rest (head-first (planeSegments (a .width) (a .height) samples) (a .dst .now) 0 (omega arith)) (rowsFrom (a .width) samples 0 (a .height - 0)) (rows-all (a .width) samples (a .height)),
+      write-same-rest (write-start (planeSegments (a .width) (a .height) samples) (a .dst .now) 0 (omega arith)) (segmentsFromRow (a .width) samples 0 (a .height - 0)) (segmentsFromRow-0 (a .width) samples (a .height)),
     )
 
 mul-read-samples : tie.Need-mul-read-samples Inv-loop μ-loop
-mul-read-samples c = let a = c .before .before .before .before .args in omega (arith, area-most (c .before .loop .r) (a .width) (omega arith) (omega arith))
+mul-read-samples c = let a = c .before .before .before .before .args in omega (arith, area-max (c .before .loop .r) (a .width) (omega arith) (omega arith))
 
 sub-read-samples : tie.Need-sub-read-samples Inv-loop μ-loop
 sub-read-samples c = search needs
@@ -86,8 +86,8 @@ part-codes-end-2 c =
     let l = c .before .before .before .before .before .loop in
     let a = c .before .before .before .before .before .before .before .before .args in
     let read = c .before .before .read-samples in
-    let lent = length-first (l .codes) (a .width) (omega arith) in
-    omega (arith, length-with-first (l .codes) (a .width) (read .last .1 .1 .1 .1 .0) (omega arith) (read .kept .1 .1 .1 .1 .0 ∙ lent))
+    let borrowed = length-arrayPrefix (l .codes) (a .width) (omega arith) in
+    omega (arith, length-replacePrefix (l .codes) (a .width) (read .last .1 .1 .1 .1 .0) (omega arith) (read .kept .1 .1 .1 .1 .0 ∙ borrowed))
 
 code-scanline-requires : tie.Need-code-scanline-requires Inv-loop μ-loop
 code-scanline-requires c κs = search needs
@@ -120,10 +120,10 @@ returns c =
     let samples = samplesOf (a .layout) (a .channel) (a .src .now) in
     let row = row-is (c .before .before .before .before .before .before .before .before .before .before) in
     let put = c .before .before .before .before .encode-next-row in
-    let wrote = row-wrote row (l .dst) (put .last .1 .0) (l .to) (put .result) (put .ensures) in
+    let wrote = row-written row (l .dst) (put .last .1 .0) (l .to) (put .result) (put .ensures) in
     wrote-from-0 (planeSegments (a .width) (a .height) samples) (a .dst .now) (put .last .1 .0) (put .result)
-    (head-stop (l .inv .4) (rowSegments (codesAt (a .width) samples (l .r))) (rowsFrom (a .width) samples (l .r + 1) (a .height - (l .r + 1))) (put .last .1 .0) (put .result) (c .enum-told .given .0 .0)
-    (rows-more (a .width) samples (l .r) (a .height) (omega arith)) wrote (c .enum-told .given .1))
+    (write-stop (l .inv .4) (rowSegments (codesAt (a .width) samples (l .r))) (segmentsFromRow (a .width) samples (l .r + 1) (a .height - (l .r + 1))) (put .last .1 .0) (put .result) (c .enum-told .given .0 .0)
+    (segmentsFromRow-step (a .width) samples (l .r) (a .height) (omega arith)) wrote (c .enum-told .given .1))
 
 add-r : tie.Need-add-r Inv-loop μ-loop
 add-r c = search needs
@@ -138,13 +138,13 @@ loop-again c =
     let samples = samplesOf (a .layout) (a .channel) (a .src .now) in
     let row = row-is (c .before .before .before .before .before .before .before .before .before .before .before) in
     let put = c .before .before .before .before .before .encode-next-row in
-    let wrote = row-wrote row (l .dst) (put .last .1 .0) (l .to) (put .result) (put .ensures) in (
+    let wrote = row-written row (l .dst) (put .last .1 .0) (l .to) (put .result) (put .ensures) in (
       omega arith,
       row .len-above,
       row .len-codes,
       row .kept,
-      head-turn (l .inv .4) (rowSegments (codesAt (a .width) samples (l .r))) (rowsFrom (a .width) samples (l .r + 1) (a .height - (l .r + 1))) (put .last .1 .0) (put .result) (c .before .answer .given .0 .0)
-          (rows-more (a .width) samples (l .r) (a .height) (omega arith)) wrote (c .before .answer .given .1),
+      write-next (l .inv .4) (rowSegments (codesAt (a .width) samples (l .r))) (segmentsFromRow (a .width) samples (l .r + 1) (a .height - (l .r + 1))) (put .last .1 .0) (put .result) (c .before .answer .given .0 .0)
+          (segmentsFromRow-step (a .width) samples (l .r) (a .height) (omega arith)) wrote (c .before .answer .given .1),
     )
 
 same-length-2 : tie.Need-same-length-2 Inv-loop μ-loop
@@ -156,7 +156,7 @@ returns-2 c =
     let a = c .before .before .before .before .args in
     let samples = samplesOf (a .layout) (a .channel) (a .src .now) in
     wrote-from-0 (planeSegments (a .width) (a .height) samples) (a .dst .now) (l .dst) (Written (l .to))
-    (head-done (l .inv .4) (rows-none (a .width) samples (l .r) (a .height - l .r) (omega arith)))
+    (write-end (l .inv .4) (segmentsFromRow-end (a .width) samples (l .r) (a .height - l .r) (omega arith)))
 
 pub encode-spec : {M : Type 1} → statement M
 encode-spec =

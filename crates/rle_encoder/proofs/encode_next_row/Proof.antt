@@ -1,7 +1,7 @@
--- `encode_next_row`: what was packed into the part that was lent, as a write of the whole. Assumes nothing.
+-- `encode_next_row`: what was packed into a part of dst, as a write to dst. Assumes nothing.
 use native.Mathlib.Omega.{arith}
 use Rattle.rle_format.specs.Pack.{rowSegments}
-use Rattle.rle_format.proofs.Head.{part-stops, part-fits, part-within}
+use Rattle.rle_format.proofs.WriteLoop.{part-refused, part-written, part-within}
 use borrow.Author.Needs.{needs}
 use Rattle.rle_encoder.proofs.encode_next_row.Statement.{statement}
 use Rattle.rle_encoder.proofs.encode_next_row.Tie as tie
@@ -31,7 +31,7 @@ returns : tie.Need-returns
 returns c =
     let a = c .before .before .before .before .before .before .before .before .args in
     let row = c .before .before .before .before .encode-scanline in
-    part-stops (rowSegments (a .codes .now)) (a .dst .now) _ (a .at) (row .result) (row .ensures .0) (row .ensures .1) (c .enum-told .given .0 .0) (c .enum-told .given .1)
+    part-refused (rowSegments (a .codes .now)) (a .dst .now) _ (a .at) (row .result) (row .ensures .0) (row .ensures .1) (c .enum-told .given .0 .0) (c .enum-told .given .1)
 
 add-t7 : tie.Need-add-t7
 add-t7 c =
@@ -47,7 +47,7 @@ returns-2 : tie.Need-returns-2
 returns-2 c =
     let a = c .before .before .before .before .before .before .before .before .before .args in
     let row = c .before .before .before .before .before .encode-scanline in
-    part-fits (rowSegments (a .codes .now)) (a .dst .now) _ (a .at) (row .result) (row .ensures .0) (row .ensures .1) (c .before .answer .given .0 .0) (c .before .answer .given .1)
+    part-written (rowSegments (a .codes .now)) (a .dst .now) _ (a .at) (row .result) (row .ensures .0) (row .ensures .1) (c .before .answer .given .0 .0) (c .before .answer .given .1)
 
 pub encode-next-row-spec : {M : Type 1} → statement M
 encode-next-row-spec =

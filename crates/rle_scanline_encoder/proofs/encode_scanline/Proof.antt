@@ -6,17 +6,17 @@ use native.Mathlib.Omega.{arith}
 use borrow.Author.Needs.{needs}
 use lib.ListN.{length}
 use Rattle.rle_format.specs.Answer.{counted, stop}
-use Rattle.rle_format.specs.Slice.{over}
+use Rattle.rle_format.specs.Slice.{overwrite}
 use Rattle.rle_format.specs.Pack.{rowSegments, writeSegments}
-use Rattle.rle_format.proofs.Slice.{over-none}
-use Rattle.rle_format.proofs.Head.{wrote-from-0}
+use Rattle.rle_format.proofs.Slice.{overwrite-nil}
+use Rattle.rle_format.proofs.WriteLoop.{wrote-from-0}
 use Rattle.rle_scanline_encoder.proofs.encode_scanline.Statement.{statement}
 use Rattle.rle_scanline_encoder.proofs.encode_scanline.Tie as tie
 
 no-values : (codes d : List ℕ) → length codes ≡ 0
-    → (counted 0 ≡ writeSegments (rowSegments codes) (length d) .answer) × (d ≡ over d (writeSegments (rowSegments codes) (length d) .written))
+    → (counted 0 ≡ writeSegments (rowSegments codes) (length d) .answer) × (d ≡ overwrite d (writeSegments (rowSegments codes) (length d) .written))
 unfolding rowSegments writeSegments stop
-no-values [] d e = (refl, sym (over-none d))
+no-values [] d e = (refl, sym (overwrite-nil d))
 no-values (x ∷ xs) d e = absurd (omega arith)
 
 returns : tie.Need-returns

@@ -1,4 +1,4 @@
-//! What is measured: the same call of the Rust and of the port, from the same source into the same buffers.
+//! What is measured: the same call of IronRDP and of the port, from the same source into the same buffers.
 
 use comparer::encoding::given::pixels;
 use comparer::encoding::Sources;
@@ -37,7 +37,7 @@ pub fn entries() -> [(&'static str, Entry); 9] {
     ]
 }
 
-/// What a call writes to: the work area of a picture, and the output, which to the Rust's decoder is a vector that keeps what it has
+/// What a call writes to: the work area of a picture, and the output, which to IronRDP's decoder is a vector that keeps what it has
 /// allocated.
 pub struct Buffers {
     pub work: Vec<u8>,
@@ -89,7 +89,7 @@ impl Entry {
         Buffers { work: vec![0; work], out: vec![0; room] }
     }
 
-    /// Where the output stands: behind the byte that the Rust writes as a header where it packs a picture.
+    /// Where the output stands: behind the byte that IronRDP writes as a header where it packs a picture.
     pub fn start(self) -> usize {
         usize::from(matches!(self, Entry::PackPixels { .. } | Entry::PackChannels { .. }))
     }
@@ -102,7 +102,7 @@ impl Entry {
         }
     }
 
-    /// The Rust's answer as one number.
+    /// IronRDP's answer as one number.
     pub fn by_rust(self, source: &[u8], buffers: &mut Buffers, side: usize) -> i64 {
         let (source, Buffers { work, out }) = (black_box(source), black_box(buffers));
         let answer = match self {

@@ -1,4 +1,4 @@
-//! Measures the Rust and the port side by side: the same sources, the same buffers, in turn within each round. The tables are written
+//! Measures IronRDP and the port side by side: the same sources, the same buffers, in turn within each round. The tables are written
 //! in Markdown, for docs/PERFORMANCE.md.
 
 mod clock;

@@ -1,4 +1,4 @@
-//! The Rust, the port and a plain copy of the output, in turn within each round.
+//! IronRDP, the port and a plain copy of the output, in turn within each round.
 
 use crate::clock::nanoseconds;
 use crate::entry::{Buffers, Entry};
@@ -8,7 +8,7 @@ use std::hint::black_box;
 /// A copy of less is repeated up to so many bytes, or the clock would be measured.
 const LEAST_COPIED: usize = 1 << 20;
 
-/// A source, the Rust's answer to it, and the output that it comes to.
+/// A source, IronRDP's answer to it, and the output that it comes to.
 struct Input {
     source: Vec<u8>,
     answer: i64,
@@ -16,7 +16,7 @@ struct Input {
 }
 
 impl Input {
-    /// What the Rust makes of a source.
+    /// What IronRDP makes of a source.
     fn new(entry: Entry, source: Vec<u8>, buffers: &mut Buffers, side: usize) -> Input {
         let answer = entry.by_rust(&source, buffers, side);
         let output = buffers.out[entry.start()..][..entry.output_len(answer, side)].to_vec();

@@ -1,4 +1,4 @@
-//! What the Rust does outside document 01's domain, one small input for each way. docs/DIFFERENCES.md lists them.
+//! What IronRDP does outside document 01's domain, one small input for each way. docs/DIFFERENCES.md lists them.
 
 use comparer::bytes;
 use comparer::case::Operation;
@@ -290,7 +290,7 @@ fn print_input(input: &Input) {
     }
 }
 
-/// What the port does, on slices that are lent.
+/// What the port does, on slices that are passed.
 fn by_port(case: &Owned, after: &mut [u8]) -> i64 {
     let function = match case.operation {
         Operation::Unpack => ours::unpack,
@@ -313,7 +313,7 @@ fn print_both(case: &Owned) {
     println!("    the port: {}, destination {}", answer_text(port), bytes::text(&port_after));
 }
 
-/// The Rust gets the work area as it is, and an empty image: what it makes is appended to whatever there was.
+/// IronRDP gets the work area as it is, and an empty image: what it makes is appended to whatever there was.
 fn print_picture(case: &OwnedPicture) {
     let OwnedPicture { width, height, form, .. } = *case;
     println!("  {case}");
@@ -339,7 +339,7 @@ fn print_picture(case: &OwnedPicture) {
 fn print_sizes(case: &Sizes) {
     println!("  {case}");
     println!("    by formula: work area {}, image {}", case.work(), case.image());
-    // SAFETY: nothing is lent.
+    // SAFETY: no pointer is passed.
     let (work, image) = unsafe {
         (
             ours::rdp6_work_size(case.rle, case.definition, case.subsampled, case.width, case.height),
@@ -349,7 +349,7 @@ fn print_sizes(case: &Sizes) {
     println!("    the port: work area {work}, image {image}");
 }
 
-/// The Rust gets a destination with a byte in front, in which its header is left.
+/// IronRDP gets a destination with a byte in front, in which its header is left.
 fn print_encoding(case: &OwnedEncoding) {
     let Encoding { width, height, rle, .. } = *case;
     println!("  {case}");

@@ -1,8 +1,8 @@
-//! Compares the port's library with the Rust.
+//! Compares the port's library with IronRDP.
 //!
 //!   compare [SECONDS] [SEED]   the whole comparison
 //!   compare --case 'pu ...'    one case, both answers; also pp, iu, is, pc, pb and d3
-//!   compare --differences      what the Rust does outside document 01's domain, and what the port does
+//!   compare --differences      what IronRDP does outside document 01's domain, and what the port does
 
 mod differences;
 

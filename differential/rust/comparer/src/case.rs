@@ -94,7 +94,7 @@ impl<'a> Case<'a> {
         }
     }
 
-    /// What the Rust answers; `after` is its destination.
+    /// What IronRDP answers; `after` is its destination.
     pub fn by_rust(&self, after: &mut [u8]) -> Answer {
         match self.operation {
             Operation::Unpack => original::unpack(self.source, after, self.width, self.height),

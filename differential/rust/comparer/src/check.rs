@@ -14,7 +14,7 @@ use std::fmt;
 /// refusal's number.
 pub type Function = unsafe extern "C" fn(*const u8, usize, *mut u8, usize, usize, usize) -> i64;
 
-/// What is held to the Rust.
+/// What is compared with IronRDP.
 #[derive(Clone, Copy)]
 pub struct Library {
     pub unpack: Function,
@@ -77,7 +77,7 @@ pub fn answer_text(number: i64) -> String {
     }
 }
 
-/// A library, what is lent to it, and what was compared so far.
+/// A library, what is passed to it, and what was compared so far.
 pub struct Comparer {
     pub(crate) library: Library,
     pub(crate) lender: Lender,
@@ -117,13 +117,13 @@ impl Comparer {
         self.hold_to(case, wanted, sides)
     }
 
-    /// Has the bytes beside what is lent told to a sanitiser.
+    /// Has the bytes beside what is passed told to a sanitiser.
     pub fn watch_by(&mut self, watch: Watch) {
         self.lender.watch = Some(watch);
     }
 
     /// What must be answered and what the slices that are written to must hold then, without a call of the library; of the sizes
-    /// that of the work area. Demand 3 is no call.
+    /// that of the work area. The prefix theorem (demand 3) is no call.
     pub fn wanted(&mut self, input: &Input) -> Result<(Answer, After), Box<Difference>> {
         match input {
             Input::Call(case) => {
@@ -181,7 +181,7 @@ impl Comparer {
         for &side in sides {
             let loans =
                 [Loan::read("source", case.source), Loan::written("destination", case.before, &mut self.got_after)];
-            // SAFETY: both are lent for this call. That it keeps to them is what is tested.
+            // SAFETY: both are passed for this call. That it keeps to them is what is tested.
             let (got, harm) = self.lender.call(View::Call(case), side, loans, |[src, dst]| unsafe {
                 function(src, len, dst, room, case.width, case.height)
             });

@@ -1,4 +1,4 @@
-//! Demand 3: what was packed and is unpacked again, whole or cut, gives back all that the bytes can hold.
+//! The prefix theorem (demand 3): what was packed and is unpacked again, whole or cut, gives back all that the bytes can hold.
 
 pub mod case;
 pub mod check;

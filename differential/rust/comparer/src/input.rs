@@ -1,5 +1,5 @@
 //! What can differ: one call of a plane coder, of a picture decoder or of a picture encoder, what the sizes are said to be, or
-//! one case of demand 3.
+//! one case of the prefix theorem (demand 3).
 
 use crate::case::{Case, Owned};
 use crate::demand::Demand;
@@ -17,7 +17,7 @@ pub enum Input {
     Demand(Demand),
 }
 
-/// A call whose bytes are lent.
+/// A call whose bytes are passed.
 #[derive(Clone, Copy)]
 pub enum View<'a> {
     Call(Case<'a>),

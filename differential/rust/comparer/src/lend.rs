@@ -1,4 +1,4 @@
-//! Lends slices whose surroundings are watched. A lent slice lies in pages of its own with pages on both sides that may not
+//! Places slices in guarded memory, whose surroundings are watched. A guarded slice lies in pages of its own with pages on both sides that may not
 //! be touched: it either ends where such a page begins or starts where one ends. The rest of its own pages holds canaries.
 //!
 //! When a forbidden page is touched, the fault is noted and the page is opened, so that the call goes on: the case can be
@@ -13,9 +13,9 @@ use std::sync::atomic::{AtomicUsize, Ordering};
 use std::sync::Once;
 
 const PAGE: usize = 4096;
-/// The forbidden bytes on either side of lent pages.
+/// The forbidden bytes on either side of guarded pages.
 const GAP: usize = 64 * PAGE;
-/// One stretch of addresses holds all that is lent, so that a fault inside it is known to be ours.
+/// One stretch of addresses holds all that is passed, so that a fault inside it is known to be ours.
 const STRETCH: usize = 1 << 33;
 
 const PROT_NONE: c_int = 0;
@@ -120,7 +120,7 @@ static CANARIES: Page = Page({
     page
 });
 
-/// Where a lent slice lies in its pages.
+/// Where a guarded slice lies in its pages.
 #[derive(Clone, Copy, Debug, PartialEq, Eq)]
 pub enum Side {
     /// It starts right behind a forbidden page.
@@ -158,7 +158,7 @@ impl Region {
 
     fn slice(&self, from: usize, len: usize) -> &[u8] {
         assert!(from + len <= self.len);
-        // SAFETY: inside this region; what was lent to is not written to while this is held.
+        // SAFETY: inside this region; what was passed to is not written to while this is held.
         unsafe { std::slice::from_raw_parts(self.start.add(from), len) }
     }
 
@@ -169,7 +169,7 @@ impl Region {
         }
     }
 
-    /// Where the bytes are lent. An empty slice is lent as NULL once, as the header allows.
+    /// Where the bytes are passed. An empty slice is passed as NULL once, as the header allows.
     fn lend(&self, bytes: &[u8], side: Side) -> *mut u8 {
         if bytes.is_empty() && side == Side::Start {
             return ptr::null_mut();
@@ -243,7 +243,7 @@ impl Region {
     }
 }
 
-/// A slice that is lent: its name, its bytes, and if it may be written to, where they go after the call.
+/// A slice that is passed: its name, its bytes, and if it may be written to, where they go after the call.
 pub struct Loan<'a> {
     pub name: &'static str,
     pub bytes: &'a [u8],
@@ -263,7 +263,7 @@ impl<'a> Loan<'a> {
 /// No call has more slices.
 const SLICES: usize = 5;
 
-/// Told of bytes beside a lent slice, in its own pages, before a call (true) and after it (false). A sanitiser can then forbid
+/// Told of bytes beside a guarded slice, in its own pages, before a call (true) and after it (false). A sanitiser can then forbid
 /// them to the byte where the forbidden pages do not reach.
 pub type Watch = fn(at: *const u8, len: usize, forbidden: bool);
 

@@ -1,6 +1,6 @@
-//! Holds a plane unpacker, a plane packer, a picture decoder and picture encoders to the Rust inside document 01's domain and to
-//! document 01 outside it, byte by byte, on slices whose surroundings are watched; and both pairs of plane coders, the Rust's
-//! and the library's, to demand 3.
+//! Compares a plane unpacker, a plane packer, a picture decoder and picture encoders with IronRDP inside document 01's domain and with
+//! document 01 outside it, byte by byte, on slices whose surroundings are watched; and both pairs of plane coders, IronRDP's
+//! and the library's, with the prefix theorem (demand 3).
 
 pub mod bytes;
 pub mod case;

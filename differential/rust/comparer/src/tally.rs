@@ -20,7 +20,7 @@ pub enum Judge {
     Rust,
     /// Outside the domain.
     Document,
-    /// Of demand 3.
+    /// Of the prefix theorem (demand 3).
     Model,
 }
 

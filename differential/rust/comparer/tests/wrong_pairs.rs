@@ -1,4 +1,4 @@
-//! Demand 3 must find every one of these mistakes, by its own cases alone, and none in a right pair.
+//! The prefix theorem (demand 3) must find every one of these mistakes, by its own cases alone, and none in a right pair.
 
 mod support;
 

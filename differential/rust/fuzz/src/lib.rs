@@ -1,5 +1,5 @@
 //! What libFuzzer calls with each of its inputs. The input tells a case of one entry, which the setting RDP6_ENTRY names; the case
-//! is held to the Rust inside the domain and to document 01 outside it, on slices at either end of guarded pages.
+//! is compared with IronRDP inside the domain and with document 01 outside it, on slices at either end of guarded pages.
 
 mod edges;
 mod sanitizer;

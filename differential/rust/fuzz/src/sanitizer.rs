@@ -8,7 +8,7 @@ extern "C" {
     fn __asan_unpoison_memory_region(at: *const u8, len: usize);
 }
 
-/// Forbids the bytes beside a lent slice to the instrumented library for the time of a call.
+/// Forbids the bytes beside a guarded slice to the instrumented library for the time of a call.
 pub fn watch(at: *const u8, len: usize, forbidden: bool) {
     // SAFETY: bytes of pages that are the lender's; only what the sanitiser knows of them is changed.
     unsafe {

@@ -3,7 +3,7 @@
 use crate::rdp6::bitmap_stream::encoder::{BgrAChannels, BitmapEncodeError, BitmapStreamEncoder};
 use crate::{panics, Answer, Header};
 
-/// What the Rust does with a picture that it is to pack.
+/// What IronRDP does with a picture that it is to pack.
 #[derive(Clone, Debug, PartialEq, Eq)]
 pub struct Encoded {
     /// The bytes written behind the header's byte, or why not all were.

@@ -1,4 +1,4 @@
-//! The Rust that was ported, unchanged, behind functions that always come back: its errors by document 01's numbers,
+//! IronRDP, unchanged, behind functions that always come back: its errors by document 01's numbers,
 //! its panics caught.
 
 include!(concat!(env!("OUT_DIR"), "/modules.rs"));
@@ -15,7 +15,7 @@ use ironrdp_core::WriteCursor;
 use rdp6::rle::{compress_8bpp_plane, decompress_8bpp_plane, RleDecodeError, RleEncodeError};
 use std::fmt;
 
-/// What the Rust answers to a plane or a picture that it is to unpack or to pack.
+/// What IronRDP answers to a plane or a picture that it is to unpack or to pack.
 #[derive(Clone, Debug, PartialEq, Eq)]
 pub enum Answer {
     /// So many bytes were read by unpacking a plane, or written by packing one or a picture; or so many bytes of image were

@@ -8,13 +8,13 @@ pub use ffi::*;
 
 /// Unpacking on slices, for callers that do not care where they lie.
 pub fn unpack(src: &[u8], dst: &mut [u8], width: usize, height: usize) -> i64 {
-    // SAFETY: both are lent for the call, with their lengths.
+    // SAFETY: both are passed for the call, with their lengths.
     unsafe { rdp6_decompress_8bpp_plane(src.as_ptr(), src.len(), dst.as_mut_ptr(), dst.len(), width, height) }
 }
 
 /// Packing on slices.
 pub fn pack(src: &[u8], dst: &mut [u8], width: usize, height: usize) -> i64 {
-    // SAFETY: both are lent for the call, with their lengths.
+    // SAFETY: both are passed for the call, with their lengths.
     unsafe { rdp6_compress_8bpp_plane(src.as_ptr(), src.len(), dst.as_mut_ptr(), dst.len(), width, height) }
 }
 
@@ -30,7 +30,7 @@ pub struct Form {
 
 /// Unpacking a picture on slices.
 pub fn decode(form: Form, body: &[u8], work: &mut [u8], image: &mut [u8], width: usize, height: usize) -> i64 {
-    // SAFETY: all three are lent for the call, with their lengths.
+    // SAFETY: all three are passed for the call, with their lengths.
     unsafe {
         rdp6_decode(
             form.rle,
@@ -61,7 +61,7 @@ pub fn encode_channels(
 ) -> i64 {
     let (r_at, g_at, b_at, dst_at) = (r.as_ptr(), g.as_ptr(), b.as_ptr(), dst.as_mut_ptr());
     let (r_len, g_len, b_len, room) = (r.len(), g.len(), b.len(), dst.len());
-    // SAFETY: all are lent for the call, with their lengths.
+    // SAFETY: all are passed for the call, with their lengths.
     unsafe {
         match alpha {
             None => {
@@ -89,6 +89,6 @@ pub fn encode_channels(
 /// Packing a picture of pixels on slices.
 pub fn encode_bitmap(pixels: &[u8], alpha: bool, dst: &mut [u8], rle: bool, width: usize, height: usize) -> i64 {
     let encode = if alpha { rdp6_encode_bitmap_alpha } else { rdp6_encode_bitmap };
-    // SAFETY: both are lent for the call, with their lengths.
+    // SAFETY: both are passed for the call, with their lengths.
     unsafe { encode(pixels.as_ptr(), pixels.len(), dst.as_mut_ptr(), dst.len(), rle, width, height) }
 }

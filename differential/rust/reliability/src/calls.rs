@@ -9,7 +9,7 @@ use comparer::{bytes, Comparer, Input, Owned};
 /// What a call answers; the second number is of the two sizes alone.
 pub type Answers = [i64; 2];
 
-/// A case with what must come of it: by the Rust inside the domain, by document 01 outside.
+/// A case with what must come of it: by IronRDP inside the domain, by document 01 outside.
 pub struct Known {
     pub input: Input,
     answers: Answers,
@@ -105,7 +105,7 @@ impl Caller {
 fn call_sizes(case: &Sizes) -> Answers {
     let Sizes { width, height, rle, definition, subsampled } = *case;
     let pictures = LIBRARY.pictures;
-    // SAFETY: nothing is lent.
+    // SAFETY: no pointer is passed.
     unsafe {
         let work = (pictures.work_size)(rle, definition, subsampled, width, height);
         [work as i64, (pictures.image_size)(width, height) as i64]
@@ -119,7 +119,7 @@ mod tests {
     use crate::LIBRARY;
     use comparer::Comparer;
 
-    /// The library is held to every answer and to every byte: what is a little otherwise is found.
+    /// The library is compared in every answer and every byte: what is a little otherwise is found.
     #[test]
     fn what_is_otherwise_is_different() {
         let (mut comparer, mut caller) = (Comparer::new(LIBRARY), Caller::default());

@@ -1,4 +1,4 @@
-//! One process for long: the same reference cases again and again, new cases in between, every answer and every byte held to
+//! One process for long: the same reference cases again and again, new cases in between, every answer and every byte compared with
 //! what must come of it.
 
 use comparer::Comparer;

@@ -3,7 +3,7 @@
 //!   reliability endure SECONDS [SEED]    all entries mixed in one process: answers, memory, speed
 //!   reliability threads SECONDS [SEED]   several threads at once, each on its own slices
 //!   reliability seeds FOLDER             inputs for a fuzzer to begin with, a folder for each entry
-//!   reliability replay FOLDER            a fuzzer's inputs, a folder for each entry, held to the Rust on guarded pages
+//!   reliability replay FOLDER            a fuzzer's inputs, a folder for each entry, compared with IronRDP on guarded pages
 
 mod corpus;
 mod endure;

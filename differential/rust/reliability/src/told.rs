@@ -35,7 +35,7 @@ enum Making {
     Plain,
     /// Segments that fit their rows, by the bytes.
     Fitted,
-    /// The bytes as samples, packed by the Rust.
+    /// The bytes as samples, packed by IronRDP.
     Packed,
 }
 

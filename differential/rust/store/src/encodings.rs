@@ -1,4 +1,4 @@
-//! Asks the Rust to pack pictures and keeps its answers.
+//! Asks IronRDP to pack pictures and keeps its answers.
 
 use crate::{encoding_sample, Lines, BEFORE, LONGEST};
 use comparer::bytes;
@@ -52,7 +52,7 @@ impl Encodings {
         self.keep_case(&Encoding { before: &before[..], ..given(rle, sides, sources.view()) }.to_owned());
     }
 
-    /// Asks the Rust and keeps its answer, without the header's byte in front of what it writes.
+    /// Asks IronRDP and keeps its answer, without the header's byte in front of what it writes.
     pub fn keep_case(&mut self, case: &OwnedEncoding) {
         assert!(case.is_inside(), "a case outside the domain");
         assert!(case.before.iter().all(|&byte| byte == BEFORE), "a destination that holds something else");

@@ -1,4 +1,4 @@
-//! Writes samples of the Rust's answers inside document 01's domain, one case a line: a file each for unpacking and packing of
+//! Writes samples of IronRDP's answers inside document 01's domain, one case a line: a file each for unpacking and packing of
 //! planes,
 //!
 //!   WIDTH HEIGHT ROOM ANSWER SOURCE AFTER
@@ -74,7 +74,7 @@ impl Stored {
         stored.lines
     }
 
-    /// Asks the Rust and keeps its answer.
+    /// Asks IronRDP and keeps its answer.
     pub fn keep(&mut self, width: usize, height: usize, room: usize, source: &[u8]) {
         let before = vec![BEFORE; room];
         let case = Owned { operation: self.operation, width, height, source: source.to_vec(), before };

@@ -83,7 +83,7 @@ fn telling_colours(stored: &mut Pictures, rng: &mut Rng) {
     }
 }
 
-/// Bodies around their least size and around their end, and with bytes following.
+/// Bodies around their minimum size and around their end, and with bytes following.
 fn body_lengths(stored: &mut Pictures, rng: &mut Rng) {
     for (width, height) in [(1, 1), (3, 2), (2, 5), (48, 1)] {
         for form in forms(rng) {
@@ -151,7 +151,7 @@ fn wider(stored: &mut Pictures, rng: &mut Rng) {
     }
 }
 
-/// Each plane in turn refused: by control byte 0, by a segment that passes the width, at its start and at its last row's.
+/// Each plane in turn refused: by control byte 0, by a segment that overruns its row, at its start and at its last row's.
 fn refused_planes(stored: &mut Pictures, rng: &mut Rng) {
     let (width, height) = (4, 2);
     for form in forms(rng).into_iter().filter(|form| form.rle) {

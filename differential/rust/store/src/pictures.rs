@@ -1,4 +1,4 @@
-//! Asks the Rust for pictures and keeps its answers.
+//! Asks IronRDP for pictures and keeps its answers.
 
 use crate::{picture_sample, Lines, BEFORE};
 use comparer::bytes;
@@ -39,7 +39,7 @@ impl Pictures {
         self.keep(form, sides, body, (more[0], more[1]));
     }
 
-    /// Asks the Rust and keeps its answer. Bytes of the work area beyond the planes, which the Rust would cut off, are those that
+    /// Asks IronRDP and keeps its answer. Bytes of the work area beyond the planes, which IronRDP would cut off, are those that
     /// were there; so are bytes of the image beyond what it makes.
     pub fn keep_case(&mut self, case: &OwnedPicture) {
         assert_eq!(case.view().refused_outside(), None, "a case outside the domain");

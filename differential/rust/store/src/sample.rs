@@ -60,7 +60,7 @@ fn every_control_byte(stored: &mut Stored, rng: &mut Rng) {
     }
 }
 
-/// At every segment of some right bodies: control byte 0, no control byte, no raw byte behind it, one that passes the width.
+/// At every segment of some right bodies: control byte 0, no control byte, no raw byte behind it, one that overruns its row.
 fn refusals_at_every_place(stored: &mut Stored, rng: &mut Rng) {
     for (width, height) in [(5, 3), (9, 2), (16, 2), (17, 3), (20, 2), (33, 2), (48, 2)] {
         for opening_runs in [false, true] {

@@ -1,5 +1,5 @@
--- `chroma_value`: the wrapping sum less 128 is the signed byte; Signs.antt has the i16 part. Assumes nothing.
-use Rattle.bitmap_decoder.proofs.Signs.{chroma-fits, chroma-same}
+-- `chroma_value`: the wrapping sum less 128 is the signed byte; I16.antt has the i16 part. Assumes nothing.
+use Rattle.bitmap_decoder.proofs.I16.{chroma-fits, chroma-same}
 use borrow.Author.Needs.{needs}
 use Rattle.bitmap_decoder.proofs.color.chroma_value.Statement.{statement}
 use Rattle.bitmap_decoder.proofs.color.chroma_value.Tie as tie

@@ -1,5 +1,5 @@
--- `ycocg_with_cll_to_rgb`: no sum leaves 16 bits, and the three are the definition's (Signs.antt). Assumes nothing.
-use Rattle.bitmap_decoder.proofs.Signs.{t-fits, first-fits, second-fits, third-fits, color-is}
+-- `ycocg_with_cll_to_rgb`: no sum leaves 16 bits, and the three are the definition's (I16.antt). Assumes nothing.
+use Rattle.bitmap_decoder.proofs.I16.{t-fits, first-fits, second-fits, third-fits, color-is}
 use borrow.Author.Needs.{needs}
 use Rattle.bitmap_decoder.proofs.color.ycocg_with_cll_to_rgb.Statement.{statement}
 use Rattle.bitmap_decoder.proofs.color.ycocg_with_cll_to_rgb.Tie as tie

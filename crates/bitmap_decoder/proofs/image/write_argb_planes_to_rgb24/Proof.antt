@@ -1,20 +1,20 @@
--- `write_argb_planes_to_rgb24`: a turn of its loop is a row; the invariant is `ImageHead` of Images.antt, `Rooms` its room.
+-- `write_argb_planes_to_rgb24`: an iteration of its loop is a row; the invariant is `ImageInvariant` of ImageLoop.antt, and `Rooms` bounds the indices.
 -- Assumes nothing.
-use Rattle.rle_format.proofs.Slice.{tail-room}
+use Rattle.rle_format.proofs.Slice.{suffix-room}
 use Prim.Native.Nat.{_+_, _-_, _*_, _≤_}
 use mathlib.Core.Bool.{false}
 use mathlib.Core.Path.{refl}
 use native.Mathlib.Omega.{arith}
 use lib.ListN.{length}
-use Rattle.rle_format.proofs.Plane.{area-most}
+use Rattle.rle_format.proofs.Plane.{area-max}
 use Rattle.bitmap_format.specs.declared.ColorPlaneDefinition.the-variants.{Argb}
 use Rattle.bitmap_format.specs.Image.{imageRow}
-use Rattle.bitmap_decoder.proofs.Images.{Rooms, argb-rooms, image-room, argb-row-is, ImageHead, image-first, image-turn, image-full}
+use Rattle.bitmap_decoder.proofs.ImageLoop.{Rooms, argb-rooms, image-room, argb-row-is, ImageInvariant, image-start, image-step, image-end}
 use Rattle.bitmap_decoder.proofs.image.write_argb_planes_to_rgb24.Statement.{statement}
 use Rattle.bitmap_decoder.proofs.image.write_argb_planes_to_rgb24.Tie as tie
 
 abbrev Inv-loop : tie.InvT-loop
-Inv-loop planes image₀ width height full row₀ image row = (row ≤ height) × ImageHead image₀ image row width (imageRow Argb false width height planes)
+Inv-loop planes image₀ width height full row₀ image row = (row ≤ height) × ImageInvariant image₀ image row width (imageRow Argb false width height planes)
 
 abbrev μ-loop : tie.MeasureT-loop
 μ-loop planes image₀ width height full row₀ image row = height - row
@@ -32,10 +32,10 @@ fits c =
 mul-full : tie.Need-mul-full Inv-loop μ-loop
 mul-full c =
     let s = (c .before .before) in
-    omega (arith, area-most (s .args .width) (s .args .height) (s .pre .0) (s .pre .1))
+    omega (arith, area-max (s .args .width) (s .args .height) (s .pre .0) (s .pre .1))
 
 loop-holds : tie.Need-loop-holds Inv-loop μ-loop
-loop-holds c = (omega arith, image-first _ _ _)
+loop-holds c = (omega arith, image-start _ _ _)
 
 mul-start : tie.Need-mul-start Inv-loop μ-loop
 mul-start c = omega (arith, room (c))
@@ -98,10 +98,10 @@ write-argb-row-requires c κs =
     let R = room ((c .before .before .before .before)) in
     let full = a .width * a .height in
     let start = l .row * a .width in (
-      tail-room (a .planes .now) start (a .width) (omega (arith, R)),
-      tail-room (a .planes .now) (full + start) (a .width) (omega (arith, R)),
-      tail-room (a .planes .now) (full + full + start) (a .width) (omega (arith, R)),
-      tail-room (l .image) (l .row * (3 * a .width)) (3 * a .width) (fits ((c .before .before .before .before))),
+      suffix-room (a .planes .now) start (a .width) (omega (arith, R)),
+      suffix-room (a .planes .now) (full + start) (a .width) (omega (arith, R)),
+      suffix-room (a .planes .now) (full + full + start) (a .width) (omega (arith, R)),
+      suffix-room (l .image) (l .row * (3 * a .width)) (3 * a .width) (fits ((c .before .before .before .before))),
     )
 
 add-row : tie.Need-add-row Inv-loop μ-loop
@@ -115,13 +115,13 @@ loop-again c =
     let a = c .before .before .before .before .before .before .before .before .before .before .before .args in
     let l = c .before .before .before .before .before .before .before .before .loop in
     let w = c .before .before .write-argb-row in
-    (omega arith, image-turn _ (l .image) _ _ (l .row) (a .width) _ (l .inv .1) (w .ensures) (argb-row-is (a .planes .now) (a .width) (a .height) (l .row) _ _ _ refl refl refl) (w .kept .1 .1 .1 .0))
+    (omega arith, image-step _ (l .image) _ _ (l .row) (a .width) _ (l .inv .1) (w .ensures) (argb-row-is (a .planes .now) (a .width) (a .height) (l .row) _ _ _ refl refl refl) (w .kept .1 .1 .1 .0))
 
 same-length : tie.Need-same-length Inv-loop μ-loop
 same-length c = omega arith
 
 returns : tie.Need-returns Inv-loop μ-loop
-returns c = image-full _ _ _ _ _ _ (c .before .loop .inv .1) (omega arith)
+returns c = image-end _ _ _ _ _ _ (c .before .loop .inv .1) (omega arith)
 
 pub write-argb-planes-to-rgb24-spec : {M : Type 1} → statement M
 write-argb-planes-to-rgb24-spec =

@@ -1,20 +1,20 @@
--- `write_aycocg_planes_to_rgb24`: a turn of its loop is a row; the invariant is `ImageHead` of Images.antt, `Rooms` its room.
+-- `write_aycocg_planes_to_rgb24`: an iteration of its loop is a row; the invariant is `ImageInvariant` of ImageLoop.antt, and `Rooms` bounds the indices.
 -- Assumes nothing.
-use Rattle.rle_format.proofs.Slice.{tail-room}
+use Rattle.rle_format.proofs.Slice.{suffix-room}
 use Prim.Native.Nat.{_+_, _-_, _*_, _≤_}
 use mathlib.Core.Path.{refl}
 use native.Mathlib.Omega.{arith}
 use borrow.Author.Needs.{needs}
 use lib.ListN.{length}
-use Rattle.rle_format.proofs.Plane.{area-most}
+use Rattle.rle_format.proofs.Plane.{area-max}
 use Rattle.bitmap_format.specs.declared.ColorPlaneDefinition.the-variants.{AYCoCg}
 use Rattle.bitmap_format.specs.Image.{imageRow}
-use Rattle.bitmap_decoder.proofs.Images.{Rooms, rooms, Areas, areas, image-room, aycocg-row-is, ImageHead, image-first, image-turn, image-full}
+use Rattle.bitmap_decoder.proofs.ImageLoop.{Rooms, rooms, Areas, areas, image-room, aycocg-row-is, ImageInvariant, image-start, image-step, image-end}
 use Rattle.bitmap_decoder.proofs.image.write_aycocg_planes_to_rgb24.Statement.{statement}
 use Rattle.bitmap_decoder.proofs.image.write_aycocg_planes_to_rgb24.Tie as tie
 
 abbrev Inv-loop : tie.InvT-loop
-Inv-loop params planes image₀ width height second chroma-width third row₀ image row = (row ≤ height) × ImageHead image₀ image row width (imageRow (AYCoCg (params .«color_loss_level») (params .«chroma_subsampling»)) (params .alpha) width height planes)
+Inv-loop params planes image₀ width height second chroma-width third row₀ image row = (row ≤ height) × ImageInvariant image₀ image row width (imageRow (AYCoCg (params .«color_loss_level») (params .«chroma_subsampling»)) (params .alpha) width height planes)
 
 abbrev μ-loop : tie.MeasureT-loop
 μ-loop params planes image₀ width height second chroma-width third row₀ image row = height - row
@@ -25,14 +25,14 @@ sizes c =
     let s = (c .before .before .before .before) in
     areas (s .args .params .«chroma_subsampling») (s .args .width) (s .args .height) _ _ _ (s .pre .1) (s .pre .2) (c .before .chroma-side .ensures) (c .chroma-side2 .ensures) (s .pre .3)
 
-room : (c : tie.After-chroma-place Inv-loop μ-loop)
-    → Rooms (c .before .before .before .before .before .before .before .args .width) (c .before .before .before .before .before .before .before .args .height) (c .before .before .loop .row) (c .before .before .before .before .chroma-side .result) (c .before .before .before .chroma-side2 .result) (c .chroma-place .result) (length (c .before .before .before .before .before .before .before .args .planes .now))
+room : (c : tie.After-chroma-index Inv-loop μ-loop)
+    → Rooms (c .before .before .before .before .before .before .before .args .width) (c .before .before .before .before .before .before .before .args .height) (c .before .before .loop .row) (c .before .before .before .before .chroma-side .result) (c .before .before .before .chroma-side2 .result) (c .chroma-index .result) (length (c .before .before .before .before .before .before .before .args .planes .now))
 room c =
     let s = (c .before .before .before .before .before .before .before) in
     rooms (s .args .params .«chroma_subsampling») (s .args .width) (s .args .height) _ _ _ (s .pre .1) (s .pre .2) (c .before .before .before .before .chroma-side .ensures) (c .before .before .before .chroma-side2 .ensures) (s .pre .3)
-    (c .before .before .loop .row) _ (c .before .loop-test .taken) (c .chroma-place .ensures)
+    (c .before .before .loop .row) _ (c .before .loop-test .taken) (c .chroma-index .ensures)
 
-fits : (c : tie.After-chroma-place Inv-loop μ-loop) → c .before .before .loop .row * (3 * c .before .before .before .before .before .before .before .args .width) + 3 * c .before .before .before .before .before .before .before .args .width ≤ length (c .before .before .loop .image)
+fits : (c : tie.After-chroma-index Inv-loop μ-loop) → c .before .before .loop .row * (3 * c .before .before .before .before .before .before .before .args .width) + 3 * c .before .before .before .before .before .before .before .args .width ≤ length (c .before .before .loop .image)
 fits c =
     let s = (c .before .before .before .before .before .before .before) in
     omega (arith, image-room (c .before .before .loop .row) (s .args .width) (s .args .height) (length (s .args .image .now)) (c .before .loop-test .taken) (s .pre .4), c .before .before .loop .inv .1 .len)
@@ -40,7 +40,7 @@ fits c =
 mul-second : tie.Need-mul-second Inv-loop μ-loop
 mul-second c =
     let s = (c .before .before) in
-    omega (arith, area-most (s .args .width) (s .args .height) (s .pre .1) (s .pre .2))
+    omega (arith, area-max (s .args .width) (s .args .height) (s .pre .1) (s .pre .2))
 
 chroma-side-requires : tie.Need-chroma-side-requires Inv-loop μ-loop
 chroma-side-requires c κs = search needs
@@ -55,10 +55,10 @@ add-third : tie.Need-add-third Inv-loop μ-loop
 add-third c = omega (arith, sizes c)
 
 loop-holds : tie.Need-loop-holds Inv-loop μ-loop
-loop-holds c = (omega arith, image-first _ _ _)
+loop-holds c = (omega arith, image-start _ _ _)
 
-chroma-place-requires : tie.Need-chroma-place-requires Inv-loop μ-loop
-chroma-place-requires c κs = search needs
+chroma-index-requires : tie.Need-chroma-index-requires Inv-loop μ-loop
+chroma-index-requires c κs = search needs
 
 mul-chroma : tie.Need-mul-chroma Inv-loop μ-loop
 mul-chroma c = omega (arith, room c)
@@ -121,14 +121,14 @@ write-aycocg-row-requires c κs =
     let l = c .before .before .before .before .before .before .loop in
     let R = room ((c .before .before .before .before)) in
     let cw = c .before .before .before .before .before .before .before .before .chroma-side .result in
-    let chroma = c .before .before .before .before .chroma-place .result * cw in
+    let chroma = c .before .before .before .before .chroma-index .result * cw in
     let second = a .width * a .height in
     let third = second + cw * c .before .before .before .before .before .before .before .chroma-side2 .result in (
       s .pre .0,
-      tail-room (a .planes .now) (l .row * a .width) (a .width) (omega (arith, R)),
-      rw (← c .before .before .before .before .before .before .before .before .chroma-side .ensures) (tail-room (a .planes .now) (second + chroma) cw (omega (arith, R))),
-      rw (← c .before .before .before .before .before .before .before .before .chroma-side .ensures) (tail-room (a .planes .now) (third + chroma) cw (omega (arith, R))),
-      tail-room (l .image) (l .row * (3 * a .width)) (3 * a .width) (fits ((c .before .before .before .before))),
+      suffix-room (a .planes .now) (l .row * a .width) (a .width) (omega (arith, R)),
+      rw (← c .before .before .before .before .before .before .before .before .chroma-side .ensures) (suffix-room (a .planes .now) (second + chroma) cw (omega (arith, R))),
+      rw (← c .before .before .before .before .before .before .before .before .chroma-side .ensures) (suffix-room (a .planes .now) (third + chroma) cw (omega (arith, R))),
+      suffix-room (l .image) (l .row * (3 * a .width)) (3 * a .width) (fits ((c .before .before .before .before))),
     )
 
 add-row : tie.Need-add-row Inv-loop μ-loop
@@ -143,16 +143,16 @@ loop-again c =
     let l = c .before .before .before .before .before .before .before .before .before .loop in
     let w = c .before .before .write-aycocg-row in (
       omega arith,
-      image-turn _ (l .image) _ _ (l .row) (a .width) _ (l .inv .1) (w .ensures)
-          (aycocg-row-is (a .planes .now) (a .width) (a .height) (l .row) _ _ _ (a .params .alpha) (a .params .«color_loss_level») (a .params .«chroma_subsampling») (c .before .before .before .before .before .before .before .before .before .before .before .chroma-side .result) (c .before .before .before .before .before .before .before .before .before .before .chroma-side2 .result) (c .before .before .before .before .before .before .before .chroma-place .result)
-          (c .before .before .before .before .before .before .before .before .before .before .before .chroma-side .ensures) (c .before .before .before .before .before .before .before .before .before .before .chroma-side2 .ensures) (c .before .before .before .before .before .before .before .chroma-place .ensures) refl refl refl) (w .kept .1 .1 .1 .1 .0),
+      image-step _ (l .image) _ _ (l .row) (a .width) _ (l .inv .1) (w .ensures)
+          (aycocg-row-is (a .planes .now) (a .width) (a .height) (l .row) _ _ _ (a .params .alpha) (a .params .«color_loss_level») (a .params .«chroma_subsampling») (c .before .before .before .before .before .before .before .before .before .before .before .chroma-side .result) (c .before .before .before .before .before .before .before .before .before .before .chroma-side2 .result) (c .before .before .before .before .before .before .before .chroma-index .result)
+          (c .before .before .before .before .before .before .before .before .before .before .before .chroma-side .ensures) (c .before .before .before .before .before .before .before .before .before .before .chroma-side2 .ensures) (c .before .before .before .before .before .before .before .chroma-index .ensures) refl refl refl) (w .kept .1 .1 .1 .1 .0),
     )
 
 same-length : tie.Need-same-length Inv-loop μ-loop
 same-length c = omega arith
 
 returns : tie.Need-returns Inv-loop μ-loop
-returns c = image-full _ _ _ _ _ _ (c .before .loop .inv .1) (omega arith)
+returns c = image-end _ _ _ _ _ _ (c .before .loop .inv .1) (omega arith)
 
 pub write-aycocg-planes-to-rgb24-spec : {M : Type 1} → statement M
 write-aycocg-planes-to-rgb24-spec =
@@ -166,7 +166,7 @@ write-aycocg-planes-to-rgb24-spec =
     mul-third
     add-third
     loop-holds
-    chroma-place-requires
+    chroma-index-requires
     mul-chroma
     mul-write-aycocg-row
     sub-write-aycocg-row

@@ -1,5 +1,5 @@
 -- `decompress_alpha`: one plane, or none. Assumes nothing.
-use Rattle.bitmap_decoder.proofs.Chains.{alpha-plane, alpha-none}
+use Rattle.bitmap_decoder.proofs.PlaneSequence.{alpha-plane, no-alpha-plane}
 use borrow.Author.Needs.{needs}
 use Rattle.bitmap_decoder.proofs.planes.decompress_alpha.Statement.{statement}
 use Rattle.bitmap_decoder.proofs.planes.decompress_alpha.Tie as tie
@@ -16,7 +16,7 @@ returns c =
     alpha-plane _ _ _ _ _ _ (d .result) (c .before .before .before .before .if1 .taken) (d .ensures)
 
 returns-2 : tie.Need-returns-2
-returns-2 c = alpha-none _ _ _ _ _ (c .if1 .left)
+returns-2 c = no-alpha-plane _ _ _ _ _ (c .if1 .left)
 
 pub decompress-alpha-spec : {M : Type 1} → statement M
 decompress-alpha-spec =

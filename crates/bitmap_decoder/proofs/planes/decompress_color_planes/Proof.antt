@@ -1,14 +1,14 @@
--- `decompress_color_planes`: before each plane, what is left is what was to do (`PlanesHead` of bitmap_format's
+-- `decompress_color_planes`: before each plane, what is left is what was to do (`PlanesInvariant` of bitmap_format's
 -- UnpackPlanes.antt). Assumes nothing.
 use Prim.Native.Nat.{_+_, _*_}
 use mathlib.Core.List.{[], _∷_}
 use native.Mathlib.Omega.{arith}
 use lib.ListN.{length}
-use Rattle.rle_format.proofs.Plane.{area-most}
+use Rattle.rle_format.proofs.Plane.{area-max}
 use Rattle.bitmap_format.specs.Planes.{planeAt, colourPlanes}
-use Rattle.bitmap_format.proofs.UnpackPlanes.{PlanesHead, planes-first}
-use Rattle.bitmap_decoder.proofs.Images.{Areas, areas}
-use Rattle.bitmap_decoder.proofs.Chains.{onward, stopped, finished, colour-planes-are}
+use Rattle.bitmap_format.proofs.UnpackPlanes.{PlanesInvariant, planes-start}
+use Rattle.bitmap_decoder.proofs.ImageLoop.{Areas, areas}
+use Rattle.bitmap_decoder.proofs.PlaneSequence.{planes-step-read, planes-step-refused, planes-last-read, colour-planes-are}
 use borrow.Author.Needs.{needs}
 use Rattle.bitmap_decoder.proofs.planes.decompress_color_planes.Statement.{statement}
 use Rattle.bitmap_decoder.proofs.planes.decompress_color_planes.Tie as tie
@@ -21,7 +21,7 @@ sizes c =
 
 -- what is left before the first plane, and after each of the next two
 head1 : (c : tie.After-chroma-side2)
-    → PlanesHead (colourPlanes (c .before .before .before .before .args .subsampling) (c .before .before .before .before .args .width) (c .before .before .before .before .args .height))
+    → PlanesInvariant (colourPlanes (c .before .before .before .before .args .subsampling) (c .before .before .before .before .args .width) (c .before .before .before .before .args .height))
     (planeAt (c .before .before .before .before .args .width) (c .before .before .before .before .args .height) 0
     ∷ planeAt (c .before .chroma-side .result) (c .chroma-side2 .result) (c .before .before .before .before .args .width * c .before .before .before .before .args .height)
     ∷ planeAt (c .before .chroma-side .result) (c .chroma-side2 .result) (c .before .before .before .before .args .width * c .before .before .before .before .args .height + c .before .chroma-side .result * c .chroma-side2 .result)
@@ -29,10 +29,10 @@ head1 : (c : tie.After-chroma-side2)
     (c .before .before .before .before .args .body .now) (c .before .before .before .before .args .work .now) (c .before .before .before .before .args .work .now) (c .before .before .before .before .args .from) (c .before .before .before .before .args .from)
 head1 c =
     let s = (c .before .before .before .before) in
-    planes-first _ _ _ _ _ (colour-planes-are (s .args .subsampling) (s .args .width) (s .args .height) _ _ (c .before .chroma-side .ensures) (c .chroma-side2 .ensures)) (s .pre .0)
+    planes-start _ _ _ _ _ (colour-planes-are (s .args .subsampling) (s .args .width) (s .args .height) _ _ (c .before .chroma-side .ensures) (c .chroma-side2 .ensures)) (s .pre .0)
 
 head2 : (c : tie.After-first)
-    → PlanesHead (colourPlanes (c .before .before .before .before .before .before .before .before .before .before .args .subsampling) (c .before .before .before .before .before .before .before .before .before .before .args .width) (c .before .before .before .before .before .before .before .before .before .before .args .height))
+    → PlanesInvariant (colourPlanes (c .before .before .before .before .before .before .before .before .before .before .args .subsampling) (c .before .before .before .before .before .before .before .before .before .before .args .width) (c .before .before .before .before .before .before .before .before .before .before .args .height))
     (planeAt (c .before .before .before .before .before .before .before .chroma-side .result) (c .before .before .before .before .before .before .chroma-side2 .result) (c .before .before .before .before .before .before .before .before .before .before .args .width * c .before .before .before .before .before .before .before .before .before .before .args .height)
     ∷ planeAt (c .before .before .before .before .before .before .before .chroma-side .result) (c .before .before .before .before .before .before .chroma-side2 .result) (c .before .before .before .before .before .before .before .before .before .before .args .width * c .before .before .before .before .before .before .before .before .before .before .args .height + c .before .before .before .before .before .before .before .chroma-side .result * c .before .before .before .before .before .before .chroma-side2 .result)
     ∷ [])
@@ -40,22 +40,22 @@ head2 : (c : tie.After-first)
 head2 c =
     let a = c .before .before .before .before .before .before .before .before .before .before .args in
     let d = c .before .before .before .before .decompress-next-plane in
-    onward _ _ (planeAt (a .width) (a .height) 0) (a .body .now) (a .work .now) (a .work .now) (d .last .1 .1 .0) (a .from) (a .from) (d .result) (head1 ((c .before .before .before .before .before .before))) (d .ensures) (c .first .given .0 .0) (c .first .given .1) (d .kept .1 .1 .0)
+    planes-step-read _ _ (planeAt (a .width) (a .height) 0) (a .body .now) (a .work .now) (a .work .now) (d .last .1 .1 .0) (a .from) (a .from) (d .result) (head1 ((c .before .before .before .before .before .before))) (d .ensures) (c .first .given .0 .0) (c .first .given .1) (d .kept .1 .1 .0)
 
 head3 : (c : tie.After-second)
-    → PlanesHead (colourPlanes (c .before .before .before .before .before .before .before .before .before .before .before .before .before .before .before .before .before .args .subsampling) (c .before .before .before .before .before .before .before .before .before .before .before .before .before .before .before .before .before .args .width) (c .before .before .before .before .before .before .before .before .before .before .before .before .before .before .before .before .before .args .height))
+    → PlanesInvariant (colourPlanes (c .before .before .before .before .before .before .before .before .before .before .before .before .before .before .before .before .before .args .subsampling) (c .before .before .before .before .before .before .before .before .before .before .before .before .before .before .before .before .before .args .width) (c .before .before .before .before .before .before .before .before .before .before .before .before .before .before .before .before .before .args .height))
     (planeAt (c .before .before .before .before .before .before .before .before .before .before .before .before .before .before .chroma-side .result) (c .before .before .before .before .before .before .before .before .before .before .before .before .before .chroma-side2 .result) (c .before .before .before .before .before .before .before .before .before .before .before .before .before .before .before .before .before .args .width * c .before .before .before .before .before .before .before .before .before .before .before .before .before .before .before .before .before .args .height + c .before .before .before .before .before .before .before .before .before .before .before .before .before .before .chroma-side .result * c .before .before .before .before .before .before .before .before .before .before .before .before .before .chroma-side2 .result) ∷ [])
     (c .before .before .before .before .before .before .before .before .before .before .before .before .before .before .before .before .before .args .body .now) (c .before .before .before .before .before .before .before .before .before .before .before .before .before .before .before .before .before .args .work .now) (c .before .before .before .before .decompress-next-plane2 .last .1 .1 .0) (c .before .before .before .before .before .before .before .before .before .before .before .before .before .before .before .before .before .args .from) (c .second .given .0 .0)
 head3 c =
     let a = c .before .before .before .before .before .before .before .before .before .before .before .before .before .before .before .before .before .args in
     let d = c .before .before .before .before .decompress-next-plane2 in
-    onward _ _ (planeAt (c .before .before .before .before .before .before .before .before .before .before .before .before .before .before .chroma-side .result) (c .before .before .before .before .before .before .before .before .before .before .before .before .before .chroma-side2 .result) (a .width * a .height)) (a .body .now) (a .work .now) (c .before .before .before .before .before .before .before .before .before .before .before .decompress-next-plane .last .1 .1 .0) (d .last .1 .1 .0) (a .from) (c .before .before .before .before .before .before .before .first .given .0 .0) (d .result)
+    planes-step-read _ _ (planeAt (c .before .before .before .before .before .before .before .before .before .before .before .before .before .before .chroma-side .result) (c .before .before .before .before .before .before .before .before .before .before .before .before .before .chroma-side2 .result) (a .width * a .height)) (a .body .now) (a .work .now) (c .before .before .before .before .before .before .before .before .before .before .before .decompress-next-plane .last .1 .1 .0) (d .last .1 .1 .0) (a .from) (c .before .before .before .before .before .before .before .first .given .0 .0) (d .result)
     (head2 ((c .before .before .before .before .before .before .before))) (d .ensures) (c .second .given .0 .0) (c .second .given .1) (d .kept .1 .1 .0)
 
 mul-full : tie.Need-mul-full
 mul-full c =
     let s = (c .before .before) in
-    omega (arith, area-most (s .args .width) (s .args .height) (s .pre .1) (s .pre .2))
+    omega (arith, area-max (s .args .width) (s .args .height) (s .pre .1) (s .pre .2))
 
 chroma-side-requires : tie.Need-chroma-side-requires
 chroma-side-requires c κs = search needs
@@ -79,7 +79,7 @@ returns : tie.Need-returns
 returns c =
     let a = c .before .before .before .before .before .before .before .before .before .before .args in
     let d = c .before .before .before .before .decompress-next-plane in
-    stopped _ _ (planeAt (a .width) (a .height) 0) (a .body .now) (a .work .now) (a .work .now) (d .last .1 .1 .0) (a .from) (a .from) (d .result) (head1 ((c .before .before .before .before .before .before))) (d .ensures) (c .enum-told .given .0 .0) (c .enum-told .given .1)
+    planes-step-refused _ _ (planeAt (a .width) (a .height) 0) (a .body .now) (a .work .now) (a .work .now) (d .last .1 .1 .0) (a .from) (a .from) (d .result) (head1 ((c .before .before .before .before .before .before))) (d .ensures) (c .enum-told .given .0 .0) (c .enum-told .given .1)
 
 decompress-next-plane-requires-2 : tie.Need-decompress-next-plane-requires-2
 decompress-next-plane-requires-2 c κs =
@@ -99,7 +99,7 @@ returns-2 : tie.Need-returns-2
 returns-2 c =
     let a = c .before .before .before .before .before .before .before .before .before .before .before .before .before .before .before .before .before .args in
     let d = c .before .before .before .before .decompress-next-plane2 in
-    stopped _ _ (planeAt (c .before .before .before .before .before .before .before .before .before .before .before .before .before .before .chroma-side .result) (c .before .before .before .before .before .before .before .before .before .before .before .before .before .chroma-side2 .result) (a .width * a .height)) (a .body .now) (a .work .now) (c .before .before .before .before .before .before .before .before .before .before .before .decompress-next-plane .last .1 .1 .0) (d .last .1 .1 .0) (a .from) (c .before .before .before .before .before .before .before .first .given .0 .0) (d .result)
+    planes-step-refused _ _ (planeAt (c .before .before .before .before .before .before .before .before .before .before .before .before .before .before .chroma-side .result) (c .before .before .before .before .before .before .before .before .before .before .before .before .before .chroma-side2 .result) (a .width * a .height)) (a .body .now) (a .work .now) (c .before .before .before .before .before .before .before .before .before .before .before .decompress-next-plane .last .1 .1 .0) (d .last .1 .1 .0) (a .from) (c .before .before .before .before .before .before .before .first .given .0 .0) (d .result)
     (head2 ((c .before .before .before .before .before .before .before))) (d .ensures) (c .enum-told2 .given .0 .0) (c .enum-told2 .given .1)
 
 mul-offset : tie.Need-mul-offset
@@ -120,7 +120,7 @@ returns-3 : tie.Need-returns-3
 returns-3 c =
     let a = c .before .before .before .before .before .before .before .before .before .before .before .before .before .before .before .before .before .before .before .before .before .before .args in
     let d = c .before .before .decompress-next-plane3 in
-    finished _ (planeAt (c .before .before .before .before .before .before .before .before .before .before .before .before .before .before .before .before .before .before .before .chroma-side .result) (c .before .before .before .before .before .before .before .before .before .before .before .before .before .before .before .before .before .before .chroma-side2 .result) (a .width * a .height + c .before .before .before .before .before .before .before .before .before .before .before .before .before .before .before .before .before .before .before .chroma-side .result * c .before .before .before .before .before .before .before .before .before .before .before .before .before .before .before .before .before .before .chroma-side2 .result)) (a .body .now) (a .work .now) (c .before .before .before .before .before .before .before .before .before .decompress-next-plane2 .last .1 .1 .0) (d .last .1 .1 .0)
+    planes-last-read _ (planeAt (c .before .before .before .before .before .before .before .before .before .before .before .before .before .before .before .before .before .before .before .chroma-side .result) (c .before .before .before .before .before .before .before .before .before .before .before .before .before .before .before .before .before .before .chroma-side2 .result) (a .width * a .height + c .before .before .before .before .before .before .before .before .before .before .before .before .before .before .before .before .before .before .before .chroma-side .result * c .before .before .before .before .before .before .before .before .before .before .before .before .before .before .before .before .before .before .chroma-side2 .result)) (a .body .now) (a .work .now) (c .before .before .before .before .before .before .before .before .before .decompress-next-plane2 .last .1 .1 .0) (d .last .1 .1 .0)
     (a .from) (c .before .before .before .before .before .second .given .0 .0) (d .result) (head3 ((c .before .before .before .before .before))) (d .ensures)
 
 pub decompress-color-planes-spec : {M : Type 1} → statement M

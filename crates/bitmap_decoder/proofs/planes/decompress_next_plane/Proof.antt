@@ -1,7 +1,7 @@
--- `decompress_next_plane`: the plane unpacker's contract on the two parts that it is lent, as a write of the whole work area.
+-- `decompress_next_plane`: the plane unpacker's contract on parts of body and work area, as a write to the work area.
 -- Assumes nothing.
 use native.Mathlib.Omega.{arith}
-use Rattle.bitmap_decoder.proofs.Chains.{next-refused, next-read, next-within}
+use Rattle.bitmap_decoder.proofs.PlaneSequence.{next-refused, next-read, next-within}
 use borrow.Author.Needs.{needs}
 use Rattle.bitmap_decoder.proofs.planes.decompress_next_plane.Statement.{statement}
 use Rattle.bitmap_decoder.proofs.planes.decompress_next_plane.Tie as tie

@@ -1,9 +1,9 @@
--- `decompress_planes`: the colour planes go on where alpha stopped (`planes-then`), unless that was refused. Assumes nothing.
+-- `decompress_planes`: the colour planes go on where alpha stopped (`planes-append`), unless that was refused. Assumes nothing.
 use mathlib.Core.Path.{sym, ap, _∙_}
 use native.Mathlib.Omega.{arith}
-use Rattle.rle_format.specs.Answer.{told}
+use Rattle.rle_format.specs.Answer.{toAnswer}
 use Rattle.bitmap_format.proofs.UnpackPlanes.{planes-within}
-use Rattle.bitmap_decoder.proofs.Chains.{alpha-refused, colours-then}
+use Rattle.bitmap_decoder.proofs.PlaneSequence.{alpha-refused, colours-after-alpha}
 use borrow.Author.Needs.{needs}
 use Rattle.bitmap_decoder.proofs.planes.decompress_planes.Statement.{statement}
 use Rattle.bitmap_decoder.proofs.planes.decompress_planes.Tie as tie
@@ -33,7 +33,7 @@ decompress-color-planes-requires c κs =
     let s = (c .before .before .before .before .before .before .before .before .before .before .before) in
     let d = c .before .before .before .before .before .before .before .decompress-alpha in
     let k = c .before .before .before .alpha .given in
-    (planes-within _ _ _ _ (sym (d .ensures .0) ∙ ap told (k .1)), s .pre .0, s .pre .1, rw (c .before .has-subsampled-chroma .ensures) (omega (arith, s .pre .2, d .kept .1 .1 .0)))
+    (planes-within _ _ _ _ (sym (d .ensures .0) ∙ ap toAnswer (k .1)), s .pre .0, s .pre .1, rw (c .before .has-subsampled-chroma .ensures) (omega (arith, s .pre .2, d .kept .1 .1 .0)))
 
 same-length-2 : tie.Need-same-length-2
 same-length-2 c = search needs
@@ -43,7 +43,7 @@ returns-2 c =
     let d = c .before .before .before .before .before .before .before .before .before .before .decompress-alpha in
     let k = c .before .before .before .before .before .before .alpha .given in
     let e = c .before .before .decompress-color-planes in
-    colours-then _ _ _ _ _ _ (d .result) (d .ensures) (k .0 .0) (k .1) _ (c .before .before .before .before .has-subsampled-chroma .ensures) _ (e .result) (e .ensures)
+    colours-after-alpha _ _ _ _ _ _ (d .result) (d .ensures) (k .0 .0) (k .1) _ (c .before .before .before .before .has-subsampled-chroma .ensures) _ (e .result) (e .ensures)
 
 pub decompress-planes-spec : {M : Type 1} → statement M
 decompress-planes-spec =

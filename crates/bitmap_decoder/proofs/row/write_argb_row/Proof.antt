@@ -1,20 +1,20 @@
--- `write_argb_row`: a turn of its loop is a pixel; the invariant is `RowHead` of Writes.antt. Assumes nothing.
+-- `write_argb_row`: an iteration of its loop is a pixel; the invariant is `PixelInvariant` of PixelLoop.antt. Assumes nothing.
 use Prim.Native.Nat.{_-_, _≤_}
 use mathlib.Core.Path.{refl}
 use native.Mathlib.Omega.{arith}
 use Rattle.bitmap_decoder.specs.Rows.{argbColumn}
-use Rattle.bitmap_decoder.proofs.Writes.{RowHead, row-first, row-turn, row-done}
+use Rattle.bitmap_decoder.proofs.PixelLoop.{PixelInvariant, pixels-start, pixels-step, pixels-end}
 use Rattle.bitmap_decoder.proofs.row.write_argb_row.Statement.{statement}
 use Rattle.bitmap_decoder.proofs.row.write_argb_row.Tie as tie
 
 abbrev Inv-loop : tie.InvT-loop
-Inv-loop red green blue dst₀ width column₀ dst column = (column ≤ width) × RowHead dst₀ dst column (argbColumn red green blue)
+Inv-loop red green blue dst₀ width column₀ dst column = (column ≤ width) × PixelInvariant dst₀ dst column (argbColumn red green blue)
 
 abbrev μ-loop : tie.MeasureT-loop
 μ-loop red green blue dst₀ width column₀ dst column = width - column
 
 loop-holds : tie.Need-loop-holds Inv-loop μ-loop
-loop-holds c = (omega arith, row-first _ _)
+loop-holds c = (omega arith, pixels-start _ _)
 
 shared-slice-read-t10 : tie.Need-shared-slice-read-t10 Inv-loop μ-loop
 shared-slice-read-t10 c = omega arith
@@ -25,11 +25,11 @@ shared-slice-read-t12 c = omega arith
 shared-slice-read-t14 : tie.Need-shared-slice-read-t14 Inv-loop μ-loop
 shared-slice-read-t14 c = omega arith
 
-mul-put-rgb24 : tie.Need-mul-put-rgb24 Inv-loop μ-loop
-mul-put-rgb24 c = omega arith
+mul-write-rgb24 : tie.Need-mul-write-rgb24 Inv-loop μ-loop
+mul-write-rgb24 c = omega arith
 
-put-rgb24-requires : tie.Need-put-rgb24-requires Inv-loop μ-loop
-put-rgb24-requires c κs = omega arith
+write-rgb24-requires : tie.Need-write-rgb24-requires Inv-loop μ-loop
+write-rgb24-requires c κs = omega arith
 
 add-column : tie.Need-add-column Inv-loop μ-loop
 add-column c = omega arith
@@ -41,13 +41,13 @@ loop-again : tie.Need-loop-again Inv-loop μ-loop
 loop-again c =
     let p = c .before .before in
     let l = p .before .before .before .before .before .before .loop in
-    (omega arith, row-turn _ (l .dst) _ (l .column) _ _ (l .inv .1) refl (p .put-rgb24 .kept .0) (p .put-rgb24 .ensures))
+    (omega arith, pixels-step _ (l .dst) _ (l .column) _ _ (l .inv .1) refl (p .write-rgb24 .kept .0) (p .write-rgb24 .ensures))
 
 same-length : tie.Need-same-length Inv-loop μ-loop
 same-length c = omega arith
 
 returns : tie.Need-returns Inv-loop μ-loop
-returns c = row-done _ _ _ _ _ (c .before .loop .inv .1) (omega arith)
+returns c = pixels-end _ _ _ _ _ (c .before .loop .inv .1) (omega arith)
 
 pub write-argb-row-spec : {M : Type 1} → statement M
 write-argb-row-spec =
@@ -59,8 +59,8 @@ write-argb-row-spec =
     shared-slice-read-t10
     shared-slice-read-t12
     shared-slice-read-t14
-    mul-put-rgb24
-    put-rgb24-requires
+    mul-write-rgb24
+    write-rgb24-requires
     add-column
     loop-less
     loop-again

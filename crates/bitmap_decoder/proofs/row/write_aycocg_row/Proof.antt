@@ -1,5 +1,5 @@
 -- `write_aycocg_row`: each branch by the function that it calls. Assumes nothing.
-use Rattle.bitmap_decoder.proofs.Writes.{halved, unhalved}
+use Rattle.bitmap_decoder.proofs.PixelLoop.{chroma-enough-subsampled, chroma-enough-full}
 use borrow.Author.Needs.{needs}
 use Rattle.bitmap_decoder.proofs.row.write_aycocg_row.Statement.{statement}
 use Rattle.bitmap_decoder.proofs.row.write_aycocg_row.Tie as tie
@@ -8,7 +8,7 @@ write-subsampled-row-requires : tie.Need-write-subsampled-row-requires
 write-subsampled-row-requires c κs =
     let s = (c .before .before .before .before .before .before) in
     let t = c .before .if1 .taken in
-    (s .pre .0, s .pre .1, halved _ _ _ t (s .pre .2), halved _ _ _ t (s .pre .3), s .pre .4)
+    (s .pre .0, s .pre .1, chroma-enough-subsampled _ _ _ t (s .pre .2), chroma-enough-subsampled _ _ _ t (s .pre .3), s .pre .4)
 
 same-length : tie.Need-same-length
 same-length c = search needs
@@ -20,7 +20,7 @@ write-full-row-requires : tie.Need-write-full-row-requires
 write-full-row-requires c κs =
     let s = (c .before .before .before .before .before .before) in
     let t = c .before .if1 .left in
-    (s .pre .0, s .pre .1, unhalved _ _ _ t (s .pre .2), unhalved _ _ _ t (s .pre .3), s .pre .4)
+    (s .pre .0, s .pre .1, chroma-enough-full _ _ _ t (s .pre .2), chroma-enough-full _ _ _ t (s .pre .3), s .pre .4)
 
 same-length-2 : tie.Need-same-length-2
 same-length-2 c = search needs

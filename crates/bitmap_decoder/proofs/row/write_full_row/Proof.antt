@@ -1,22 +1,22 @@
--- `write_full_row`: a turn of its loop is a pixel; the invariant is `RowHead` of Writes.antt. Assumes nothing.
+-- `write_full_row`: an iteration of its loop is a pixel; the invariant is `PixelInvariant` of PixelLoop.antt. Assumes nothing.
 use Prim.Native.Nat.{_-_, _≤_}
 use mathlib.Core.Bool.{false}
 use native.Mathlib.Omega.{arith}
 use borrow.Author.Needs.{needs}
-use Rattle.bitmap_format.specs.Image.{chromaPlace}
+use Rattle.bitmap_format.specs.Image.{chromaIndex}
 use Rattle.bitmap_decoder.specs.Rows.{aycocgColumn}
-use Rattle.bitmap_decoder.proofs.Writes.{RowHead, row-first, row-turn, row-done}
+use Rattle.bitmap_decoder.proofs.PixelLoop.{PixelInvariant, pixels-start, pixels-step, pixels-end}
 use Rattle.bitmap_decoder.proofs.row.write_full_row.Statement.{statement}
 use Rattle.bitmap_decoder.proofs.row.write_full_row.Tie as tie
 
 abbrev Inv-loop : tie.InvT-loop
-Inv-loop params y co cg dst₀ width column₀ dst column = (column ≤ width) × RowHead dst₀ dst column (aycocgColumn (params .alpha) (params .«color_loss_level») false y co cg)
+Inv-loop params y co cg dst₀ width column₀ dst column = (column ≤ width) × PixelInvariant dst₀ dst column (aycocgColumn (params .alpha) (params .«color_loss_level») false y co cg)
 
 abbrev μ-loop : tie.MeasureT-loop
 μ-loop params y co cg dst₀ width column₀ dst column = width - column
 
 loop-holds : tie.Need-loop-holds Inv-loop μ-loop
-loop-holds c = (omega arith, row-first _ _)
+loop-holds c = (omega arith, pixels-start _ _)
 
 shared-slice-read-aycocg-color : tie.Need-shared-slice-read-aycocg-color Inv-loop μ-loop
 shared-slice-read-aycocg-color c = omega arith
@@ -30,11 +30,11 @@ shared-slice-read-aycocg-color-3 c = omega arith
 aycocg-color-requires : tie.Need-aycocg-color-requires Inv-loop μ-loop
 aycocg-color-requires c κs = search needs
 
-mul-put-rgb24 : tie.Need-mul-put-rgb24 Inv-loop μ-loop
-mul-put-rgb24 c = omega arith
+mul-write-rgb24 : tie.Need-mul-write-rgb24 Inv-loop μ-loop
+mul-write-rgb24 c = omega arith
 
-put-rgb24-requires : tie.Need-put-rgb24-requires Inv-loop μ-loop
-put-rgb24-requires c κs = omega arith
+write-rgb24-requires : tie.Need-write-rgb24-requires Inv-loop μ-loop
+write-rgb24-requires c κs = omega arith
 
 add-column : tie.Need-add-column Inv-loop μ-loop
 add-column c = omega arith
@@ -43,17 +43,17 @@ loop-less : tie.Need-loop-less Inv-loop μ-loop
 loop-less c = omega arith
 
 loop-again : tie.Need-loop-again Inv-loop μ-loop
-unfolding chromaPlace
+unfolding chromaIndex
 loop-again c =
     let p = (c .before .before) in
     let l = c .before .before .before .before .before .before .before .before .before .loop in
-    (omega arith, row-turn _ (l .dst) _ (l .column) _ _ (l .inv .1) (c .before .before .before .before .aycocg-color .ensures) (p .put-rgb24 .kept .0) (p .put-rgb24 .ensures))
+    (omega arith, pixels-step _ (l .dst) _ (l .column) _ _ (l .inv .1) (c .before .before .before .before .aycocg-color .ensures) (p .write-rgb24 .kept .0) (p .write-rgb24 .ensures))
 
 same-length : tie.Need-same-length Inv-loop μ-loop
 same-length c = omega arith
 
 returns : tie.Need-returns Inv-loop μ-loop
-returns c = row-done _ _ _ _ _ (c .before .loop .inv .1) (omega arith)
+returns c = pixels-end _ _ _ _ _ (c .before .loop .inv .1) (omega arith)
 
 pub write-full-row-spec : {M : Type 1} → statement M
 write-full-row-spec =
@@ -66,8 +66,8 @@ write-full-row-spec =
     shared-slice-read-aycocg-color-2
     shared-slice-read-aycocg-color-3
     aycocg-color-requires
-    mul-put-rgb24
-    put-rgb24-requires
+    mul-write-rgb24
+    write-rgb24-requires
     add-column
     loop-less
     loop-again

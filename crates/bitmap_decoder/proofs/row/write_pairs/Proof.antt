@@ -1,6 +1,6 @@
--- `write_pairs`: a turn of its loop is two pixels that share their chroma place; the invariant is `RowHead` of Writes.antt.
+-- `write_pairs`: an iteration of its loop is two pixels that share their chroma place; the invariant is `PixelInvariant` of PixelLoop.antt.
 -- Assumes nothing.
-use Rattle.bitmap_decoder.proofs.Writes.{row-pair, column-is, left-place, right-place, RowHead, row-first, row-done}
+use Rattle.bitmap_decoder.proofs.PixelLoop.{pixels-pair-step, aycocgColumn-at, chromaIndex-even, chromaIndex-odd, PixelInvariant, pixels-start, pixels-end}
 use Prim.Native.Nat.{_+_, _-_, _*_, _≤_}
 use mathlib.Core.Bool.{true}
 use native.Mathlib.Omega.{arith}
@@ -10,13 +10,13 @@ use Rattle.bitmap_decoder.proofs.row.write_pairs.Statement.{statement}
 use Rattle.bitmap_decoder.proofs.row.write_pairs.Tie as tie
 
 abbrev Inv-loop : tie.InvT-loop
-Inv-loop params y co cg dst₀ pairs pair₀ dst pair = (pair ≤ pairs) × RowHead dst₀ dst (2 * pair) (aycocgColumn (params .alpha) (params .«color_loss_level») true y co cg)
+Inv-loop params y co cg dst₀ pairs pair₀ dst pair = (pair ≤ pairs) × PixelInvariant dst₀ dst (2 * pair) (aycocgColumn (params .alpha) (params .«color_loss_level») true y co cg)
 
 abbrev μ-loop : tie.MeasureT-loop
 μ-loop params y co cg dst₀ pairs pair₀ dst pair = pairs - pair
 
 loop-holds : tie.Need-loop-holds Inv-loop μ-loop
-loop-holds c = (omega arith, row-first _ _)
+loop-holds c = (omega arith, pixels-start _ _)
 
 shared-slice-read-o : tie.Need-shared-slice-read-o Inv-loop μ-loop
 shared-slice-read-o c = omega arith
@@ -45,20 +45,20 @@ shared-slice-read-aycocg-color-2 c = omega arith
 aycocg-color-requires-2 : tie.Need-aycocg-color-requires-2 Inv-loop μ-loop
 aycocg-color-requires-2 c κs = search needs
 
-mul-put-rgb24 : tie.Need-mul-put-rgb24 Inv-loop μ-loop
-mul-put-rgb24 c = omega arith
+mul-write-rgb24 : tie.Need-mul-write-rgb24 Inv-loop μ-loop
+mul-write-rgb24 c = omega arith
 
-put-rgb24-requires : tie.Need-put-rgb24-requires Inv-loop μ-loop
-put-rgb24-requires c κs = omega arith
+write-rgb24-requires : tie.Need-write-rgb24-requires Inv-loop μ-loop
+write-rgb24-requires c κs = omega arith
 
-mul-put-rgb24-2 : tie.Need-mul-put-rgb24-2 Inv-loop μ-loop
-mul-put-rgb24-2 c = omega arith
+mul-write-rgb24-2 : tie.Need-mul-write-rgb24-2 Inv-loop μ-loop
+mul-write-rgb24-2 c = omega arith
 
-add-put-rgb24 : tie.Need-add-put-rgb24 Inv-loop μ-loop
-add-put-rgb24 c = omega arith
+add-write-rgb24 : tie.Need-add-write-rgb24 Inv-loop μ-loop
+add-write-rgb24 c = omega arith
 
-put-rgb24-requires-2 : tie.Need-put-rgb24-requires-2 Inv-loop μ-loop
-put-rgb24-requires-2 c κs = omega arith
+write-rgb24-requires-2 : tie.Need-write-rgb24-requires-2 Inv-loop μ-loop
+write-rgb24-requires-2 c κs = omega arith
 
 add-pair : tie.Need-add-pair Inv-loop μ-loop
 add-pair c = omega arith
@@ -68,21 +68,21 @@ loop-less c = omega arith
 
 loop-again : tie.Need-loop-again Inv-loop μ-loop
 loop-again c =
-    let v = c .before .before .before .before .before .before .put-rgb24 in
-    let w = c .before .before .put-rgb242 in
+    let v = c .before .before .before .before .before .before .write-rgb24 in
+    let w = c .before .before .write-rgb242 in
     let l = c .before .before .before .before .before .before .before .before .before .before .before .before .before .before .before .loop in
     let a = c .before .before .before .before .before .before .before .before .before .before .before .before .before .before .before .before .before .before .before .before .args in (
       omega arith,
-      row-pair _ (l .dst) (v .last .0) _ (l .pair) _ _ _ (l .inv .1)
-          (column-is _ _ true (a .y .now) (a .co .now) (a .cg .now) (2 * l .pair) (l .pair) _ (left-place (l .pair)) (c .before .before .before .before .before .before .before .before .before .before .aycocg-color .ensures)) (v .kept .0) (v .ensures)
-          (column-is _ _ true (a .y .now) (a .co .now) (a .cg .now) (2 * l .pair + 1) (l .pair) _ (right-place (l .pair)) (c .before .before .before .before .before .before .before .before .aycocg-color2 .ensures)) (w .kept .0) (w .ensures),
+      pixels-pair-step _ (l .dst) (v .last .0) _ (l .pair) _ _ _ (l .inv .1)
+          (aycocgColumn-at _ _ true (a .y .now) (a .co .now) (a .cg .now) (2 * l .pair) (l .pair) _ (chromaIndex-even (l .pair)) (c .before .before .before .before .before .before .before .before .before .before .aycocg-color .ensures)) (v .kept .0) (v .ensures)
+          (aycocgColumn-at _ _ true (a .y .now) (a .co .now) (a .cg .now) (2 * l .pair + 1) (l .pair) _ (chromaIndex-odd (l .pair)) (c .before .before .before .before .before .before .before .before .aycocg-color2 .ensures)) (w .kept .0) (w .ensures),
     )
 
 same-length : tie.Need-same-length Inv-loop μ-loop
 same-length c = omega arith
 
 returns : tie.Need-returns Inv-loop μ-loop
-returns c = row-done _ _ _ _ _ (c .before .loop .inv .1) (omega arith)
+returns c = pixels-end _ _ _ _ _ (c .before .loop .inv .1) (omega arith)
 
 pub write-pairs-spec : {M : Type 1} → statement M
 write-pairs-spec =
@@ -100,11 +100,11 @@ write-pairs-spec =
     add-aycocg-color
     shared-slice-read-aycocg-color-2
     aycocg-color-requires-2
-    mul-put-rgb24
-    put-rgb24-requires
-    mul-put-rgb24-2
-    add-put-rgb24
-    put-rgb24-requires-2
+    mul-write-rgb24
+    write-rgb24-requires
+    mul-write-rgb24-2
+    add-write-rgb24
+    write-rgb24-requires-2
     add-pair
     loop-less
     loop-again

@@ -4,7 +4,7 @@ use native.Mathlib.Omega.{arith}
 use lib.ListN.{length-set}
 use Rattle.pixel_format.specs.declared.Channel.the-variants.{R, G, B}
 use Rattle.pixel_format.specs.Channel.{samplesOf}
-use Rattle.bitmap_encoder.proofs.RawBody.{colors-written}
+use Rattle.bitmap_encoder.proofs.RawBody.{write-three-planes}
 use borrow.Author.Needs.{needs}
 use Rattle.bitmap_encoder.proofs.raw.write_colors.Statement.{statement}
 use Rattle.bitmap_encoder.proofs.raw.write_colors.Tie as tie
@@ -42,7 +42,7 @@ same-length c = simp length-set (c .before .before .write-plane3 .kept .1 .1 .1 
 returns : tie.Need-returns
 returns c =
     let a = c .before .before .before .before .before .before .before .before .before .before .before .before .before .before .before .before .args in
-    colors-written (samplesOf (a .layout) R (a .r .now)) (samplesOf (a .layout) G (a .g .now)) (samplesOf (a .layout) B (a .b .now)) (a .dst .now) _ _ _ (a .at) (a .n)
+    write-three-planes (samplesOf (a .layout) R (a .r .now)) (samplesOf (a .layout) G (a .g .now)) (samplesOf (a .layout) B (a .b .now)) (a .dst .now) _ _ _ (a .at) (a .n)
     (omega arith) (omega arith) (omega arith) (omega arith) (c .before .before .before .before .before .before .before .before .before .before .write-plane .ensures) (c .before .before .before .before .before .before .write-plane2 .ensures) (c .before .before .write-plane3 .ensures)
 
 pub write-colors-spec : {M : Type 1} → statement M

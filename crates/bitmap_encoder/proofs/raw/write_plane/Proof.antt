@@ -1,7 +1,7 @@
--- `write_plane`: the part that was lent is filled. Assumes nothing.
+-- `write_plane`: a part of dst is filled. Assumes nothing.
 use Rattle.pixel_format.specs.Channel.{samplesOf}
 use native.Mathlib.Omega.{arith}
-use Rattle.bitmap_encoder.proofs.RawBody.{plane-written}
+use Rattle.bitmap_encoder.proofs.RawBody.{write-samples}
 use borrow.Author.Needs.{needs}
 use Rattle.bitmap_encoder.proofs.raw.write_plane.Statement.{statement}
 use Rattle.bitmap_encoder.proofs.raw.write_plane.Tie as tie
@@ -27,7 +27,7 @@ same-length c = search needs
 returns : tie.Need-returns
 returns c =
     let a = c .before .before .before .before .before .before .args in
-    plane-written (a .dst .now) _ (samplesOf (a .layout) (a .channel) (a .src .now)) (a .at) (a .n) (omega arith) (omega arith) (c .before .before .read-samples .ensures)
+    write-samples (a .dst .now) _ (samplesOf (a .layout) (a .channel) (a .src .now)) (a .at) (a .n) (omega arith) (omega arith) (c .before .before .read-samples .ensures)
 
 pub write-plane-spec : {M : Type 1} → statement M
 write-plane-spec =

@@ -4,8 +4,8 @@ use native.Mathlib.Omega.{arith}
 use Rattle.pixel_format.specs.declared.Channel.the-variants.{R, G, B}
 use Rattle.pixel_format.specs.Channel.{samplesOf}
 use Rattle.bitmap_format.specs.PackPicture.{pictureSegments}
-use Rattle.rle_format.proofs.Head.{head-first}
-use Rattle.bitmap_encoder.proofs.RleBody.{planes-turn, planes-stop, planes-end}
+use Rattle.rle_format.proofs.WriteLoop.{write-start}
+use Rattle.bitmap_encoder.proofs.RleBody.{planes-step, planes-refused, planes-end}
 use borrow.Author.Needs.{needs}
 use Rattle.bitmap_encoder.proofs.rle.compress_colors.Statement.{statement}
 use Rattle.bitmap_encoder.proofs.rle.compress_colors.Tie as tie
@@ -29,8 +29,8 @@ returns c =
     let red = samplesOf (a .layout) R (a .r .now) in
     let green = samplesOf (a .layout) G (a .g .now) in
     let blue = samplesOf (a .layout) B (a .b .now) in
-    let head = head-first (pictureSegments (a .width) (a .height) (red ∷ green ∷ blue ∷ [])) (a .dst .now) (a .at) (omega arith) in
-    planes-stop (a .width) (a .height) red _ (p .result) (p .ensures) (green ∷ blue ∷ []) head (c .enum-told .given .0 .0) (c .enum-told .given .1)
+    let head = write-start (pictureSegments (a .width) (a .height) (red ∷ green ∷ blue ∷ [])) (a .dst .now) (a .at) (omega arith) in
+    planes-refused (a .width) (a .height) red _ (p .result) (p .ensures) (green ∷ blue ∷ []) head (c .enum-told .given .0 .0) (c .enum-told .given .1)
 
 compress-next-plane-requires-2 : tie.Need-compress-next-plane-requires-2
 compress-next-plane-requires-2 c κs =
@@ -40,8 +40,8 @@ compress-next-plane-requires-2 c κs =
     let red = samplesOf (a .layout) R (a .r .now) in
     let green = samplesOf (a .layout) G (a .g .now) in
     let blue = samplesOf (a .layout) B (a .b .now) in
-    let head = head-first (pictureSegments (a .width) (a .height) (red ∷ green ∷ blue ∷ [])) (a .dst .now) (a .at) (omega arith) in
-    let turn = planes-turn (a .width) (a .height) red _ (p .result) (p .ensures) (green ∷ blue ∷ []) head (c .before .before .red .given .0 .0) (c .before .before .red .given .1) in
+    let head = write-start (pictureSegments (a .width) (a .height) (red ∷ green ∷ blue ∷ [])) (a .dst .now) (a .at) (omega arith) in
+    let turn = planes-step (a .width) (a .height) red _ (p .result) (p .ensures) (green ∷ blue ∷ []) head (c .before .before .red .given .0 .0) (c .before .before .red .given .1) in
     (s .pre .0, s .pre .2, turn .within)
 
 enum-known-green : tie.Need-enum-known-green
@@ -61,9 +61,9 @@ returns-2 c =
     let red = samplesOf (a .layout) R (a .r .now) in
     let green = samplesOf (a .layout) G (a .g .now) in
     let blue = samplesOf (a .layout) B (a .b .now) in
-    let head = head-first (pictureSegments (a .width) (a .height) (red ∷ green ∷ blue ∷ [])) (a .dst .now) (a .at) (c .before .before .before .before .before .before .before .before .before .before .before .before .before .before .before .before .before .pre .4) in
-    let turn = planes-turn (a .width) (a .height) red _ (p .result) (p .ensures) (green ∷ blue ∷ []) head (c .before .before .before .before .before .before .before .red .given .0 .0) (c .before .before .before .before .before .before .before .red .given .1) in
-    planes-stop (a .width) (a .height) green _ (q .result) (q .ensures) (blue ∷ []) turn (c .enum-told2 .given .0 .0) (c .enum-told2 .given .1)
+    let head = write-start (pictureSegments (a .width) (a .height) (red ∷ green ∷ blue ∷ [])) (a .dst .now) (a .at) (c .before .before .before .before .before .before .before .before .before .before .before .before .before .before .before .before .before .pre .4) in
+    let turn = planes-step (a .width) (a .height) red _ (p .result) (p .ensures) (green ∷ blue ∷ []) head (c .before .before .before .before .before .before .before .red .given .0 .0) (c .before .before .before .before .before .before .before .red .given .1) in
+    planes-refused (a .width) (a .height) green _ (q .result) (q .ensures) (blue ∷ []) turn (c .enum-told2 .given .0 .0) (c .enum-told2 .given .1)
 
 compress-next-plane-requires-3 : tie.Need-compress-next-plane-requires-3
 compress-next-plane-requires-3 c κs =
@@ -74,9 +74,9 @@ compress-next-plane-requires-3 c κs =
     let red = samplesOf (a .layout) R (a .r .now) in
     let green = samplesOf (a .layout) G (a .g .now) in
     let blue = samplesOf (a .layout) B (a .b .now) in
-    let head = head-first (pictureSegments (a .width) (a .height) (red ∷ green ∷ blue ∷ [])) (a .dst .now) (a .at) (omega arith) in
-    let turn = planes-turn (a .width) (a .height) red _ (p .result) (p .ensures) (green ∷ blue ∷ []) head (c .before .before .before .before .before .before .before .before .before .red .given .0 .0) (c .before .before .before .before .before .before .before .before .before .red .given .1) in
-    let turn2 = planes-turn (a .width) (a .height) green _ (q .result) (q .ensures) (blue ∷ []) turn (c .before .before .green .given .0 .0) (c .before .before .green .given .1) in
+    let head = write-start (pictureSegments (a .width) (a .height) (red ∷ green ∷ blue ∷ [])) (a .dst .now) (a .at) (omega arith) in
+    let turn = planes-step (a .width) (a .height) red _ (p .result) (p .ensures) (green ∷ blue ∷ []) head (c .before .before .before .before .before .before .before .before .before .red .given .0 .0) (c .before .before .before .before .before .before .before .before .before .red .given .1) in
+    let turn2 = planes-step (a .width) (a .height) green _ (q .result) (q .ensures) (blue ∷ []) turn (c .before .before .green .given .0 .0) (c .before .before .green .given .1) in
     (s .pre .0, s .pre .3, turn2 .within)
 
 same-length-3 : tie.Need-same-length-3
@@ -91,9 +91,9 @@ returns-3 c =
     let red = samplesOf (a .layout) R (a .r .now) in
     let green = samplesOf (a .layout) G (a .g .now) in
     let blue = samplesOf (a .layout) B (a .b .now) in
-    let head = head-first (pictureSegments (a .width) (a .height) (red ∷ green ∷ blue ∷ [])) (a .dst .now) (a .at) (c .before .before .before .before .before .before .before .before .before .before .before .before .before .before .before .before .before .before .before .before .before .before .pre .4) in
-    let turn = planes-turn (a .width) (a .height) red _ (p .result) (p .ensures) (green ∷ blue ∷ []) head (c .before .before .before .before .before .before .before .before .before .before .before .before .red .given .0 .0) (c .before .before .before .before .before .before .before .before .before .before .before .before .red .given .1) in
-    let turn2 = planes-turn (a .width) (a .height) green _ (q .result) (q .ensures) (blue ∷ []) turn (c .before .before .before .before .before .green .given .0 .0) (c .before .before .before .before .before .green .given .1) in
+    let head = write-start (pictureSegments (a .width) (a .height) (red ∷ green ∷ blue ∷ [])) (a .dst .now) (a .at) (c .before .before .before .before .before .before .before .before .before .before .before .before .before .before .before .before .before .before .before .before .before .before .pre .4) in
+    let turn = planes-step (a .width) (a .height) red _ (p .result) (p .ensures) (green ∷ blue ∷ []) head (c .before .before .before .before .before .before .before .before .before .before .before .before .red .given .0 .0) (c .before .before .before .before .before .before .before .before .before .before .before .before .red .given .1) in
+    let turn2 = planes-step (a .width) (a .height) green _ (q .result) (q .ensures) (blue ∷ []) turn (c .before .before .before .before .before .green .given .0 .0) (c .before .before .before .before .before .green .given .1) in
     planes-end (a .width) (a .height) blue _ (l .result) (l .ensures) turn2
 
 pub compress-colors-spec : {M : Type 1} → statement M

@@ -1,7 +1,7 @@
--- `compress_next_plane`: what was packed into the part that was lent, as a write of the whole. Assumes nothing.
+-- `compress_next_plane`: what was packed into a part of dst, as a write to dst. Assumes nothing.
 use native.Mathlib.Omega.{arith}
 use Rattle.pixel_format.specs.Channel.{samplesOf}
-use Rattle.bitmap_encoder.proofs.RleBody.{plane-stops, plane-fits, plane-within}
+use Rattle.bitmap_encoder.proofs.RleBody.{plane-refused, plane-written, plane-within}
 use borrow.Author.Needs.{needs}
 use Rattle.bitmap_encoder.proofs.rle.compress_next_plane.Statement.{statement}
 use Rattle.bitmap_encoder.proofs.rle.compress_next_plane.Tie as tie
@@ -32,7 +32,7 @@ returns c =
     let start = c .before .before .before .before .before .before .before .before in
     let a = start .args in
     let p = c .before .before .before .before .compress-8bpp-channel in
-    plane-stops (a .width) (a .height) (samplesOf (a .layout) (a .channel) (a .src .now)) (a .dst .now) _ (a .at) (p .result) (start .pre .0) (start .pre .1) (p .ensures .0) (p .ensures .1)
+    plane-refused (a .width) (a .height) (samplesOf (a .layout) (a .channel) (a .src .now)) (a .dst .now) _ (a .at) (p .result) (start .pre .0) (start .pre .1) (p .ensures .0) (p .ensures .1)
     (c .enum-told .given .0 .0) (c .enum-told .given .1)
 
 add-t11 : tie.Need-add-t11
@@ -52,7 +52,7 @@ returns-2 c =
     let start = c .before .before .before .before .before .before .before .before .before in
     let a = start .args in
     let p = c .before .before .before .before .before .compress-8bpp-channel in
-    plane-fits (a .width) (a .height) (samplesOf (a .layout) (a .channel) (a .src .now)) (a .dst .now) _ (a .at) (p .result) (start .pre .0) (start .pre .1) (p .ensures .0) (p .ensures .1)
+    plane-written (a .width) (a .height) (samplesOf (a .layout) (a .channel) (a .src .now)) (a .dst .now) _ (a .at) (p .result) (start .pre .0) (start .pre .1) (p .ensures .0) (p .ensures .1)
     (c .before .answer .given .0 .0) (c .before .answer .given .1)
 
 pub compress-next-plane-spec : {M : Type 1} → statement M

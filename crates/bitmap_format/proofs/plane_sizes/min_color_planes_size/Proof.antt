@@ -1,17 +1,17 @@
 -- `min_color_planes_size`: the sum over the three colour planes, of which two are alike (`colour-sum`). Assumes nothing.
 use native.Mathlib.Omega.{arith}
 use Prim.Native.Nat.{_≤_}
-use Rattle.bitmap_format.proofs.Sizes.{side-most, colour-sum}
+use Rattle.bitmap_format.proofs.Sizes.{chromaSide-max, colour-sum}
 use borrow.Author.Needs.{needs}
 use Rattle.bitmap_format.proofs.plane_sizes.min_color_planes_size.Statement.{statement}
 use Rattle.bitmap_format.proofs.plane_sizes.min_color_planes_size.Tie as tie
 
 -- a chroma plane's sides are no longer than the picture's
 narrow : (k : tie.After-chroma-side) → k .chroma-side .result ≤ 8192
-narrow k = let s = k .before in omega (arith, k .chroma-side .ensures, side-most (s .args .subsampling) (s .args .width), s .pre .0)
+narrow k = let s = k .before in omega (arith, k .chroma-side .ensures, chromaSide-max (s .args .subsampling) (s .args .width), s .pre .0)
 
 low : (k : tie.After-chroma-side2) → k .chroma-side2 .result ≤ 8192
-low k = let s = k .before .before in omega (arith, k .chroma-side2 .ensures, side-most (s .args .subsampling) (s .args .height), s .pre .1)
+low k = let s = k .before .before in omega (arith, k .chroma-side2 .ensures, chromaSide-max (s .args .subsampling) (s .args .height), s .pre .1)
 
 chroma-side-requires : tie.Need-chroma-side-requires
 chroma-side-requires c κs = search needs

@@ -4,21 +4,21 @@ use Prim.Native.Nat.{ℕ, _+_, _-_, _/_, _≤_}
 use native.Mathlib.Omega.{arith}
 use borrow.Author.Needs.{needs}
 use lib.ListN.{length, take, drop}
-use Rattle.rle_format.specs.Slice.{over}
-use Rattle.rle_format.proofs.Slice.{over-none, over-part}
-use Rattle.pixel_format.specs.Channel.{spaced}
-use Rattle.pixel_format.proofs.Samples.{length-spaced}
+use Rattle.rle_format.specs.Slice.{overwrite}
+use Rattle.rle_format.proofs.Slice.{overwrite-nil, overwrite-part}
+use Rattle.pixel_format.specs.Channel.{strided}
+use Rattle.pixel_format.proofs.Samples.{length-strided}
 use Rattle.pixel_format.proofs.copy.copy_channel.Statement.{statement}
 use Rattle.pixel_format.proofs.copy.copy_channel.Tie as tie
 
 abbrev Inv-loop : tie.InvT-loop
-Inv-loop pixels place from n dst₀ i₀ dst i = (i ≤ n) × ((length dst ≡ length dst₀) × (dst ≡ over dst₀ (take i (drop from (spaced 4 place (length pixels / 4) pixels)))))
+Inv-loop pixels place from n dst₀ i₀ dst i = (i ≤ n) × ((length dst ≡ length dst₀) × (dst ≡ overwrite dst₀ (take i (drop from (strided 4 place (length pixels / 4) pixels)))))
 
 abbrev μ-loop : tie.MeasureT-loop
 μ-loop pixels place from n dst₀ i₀ dst i = n - i
 
 loop-holds : tie.Need-loop-holds Inv-loop μ-loop
-loop-holds c = (omega arith, (refl, sym (over-none _)))
+loop-holds c = (omega arith, (refl, sym (overwrite-nil _)))
 
 sub-loop : tie.Need-sub-loop Inv-loop μ-loop
 sub-loop c = omega arith
@@ -40,9 +40,9 @@ loop-again c =
     let f = c .before .before .copy-four in
     let l = c .before .before .before .before .before .loop in
     let a = c .before .before .before .before .before .before .before .before .args in
-    let s = spaced 4 (a .place) (length (a .pixels .now) / 4) (a .pixels .now) in
-    let n = length-spaced 4 (a .place) (length (a .pixels .now) / 4) (a .pixels .now) in
-    (omega arith, (omega arith, over-part (a .dst .now) (l .dst) (f .last .1 .1 .1 .0) s (a .from) (l .i) 4 (omega arith) (l .inv .1 .1) (f .ensures)))
+    let s = strided 4 (a .place) (length (a .pixels .now) / 4) (a .pixels .now) in
+    let n = length-strided 4 (a .place) (length (a .pixels .now) / 4) (a .pixels .now) in
+    (omega arith, (omega arith, overwrite-part (a .dst .now) (l .dst) (f .last .1 .1 .1 .0) s (a .from) (l .i) 4 (omega arith) (l .inv .1 .1) (f .ensures)))
 
 add-copy-rest : tie.Need-add-copy-rest Inv-loop μ-loop
 add-copy-rest c = omega arith
@@ -61,11 +61,11 @@ returns c =
     let f = c .before .before .copy-rest in
     let l = c .before .before .before .before .before .loop in
     let a = c .before .before .before .before .before .before .before .before .args in
-    let s = spaced 4 (a .place) (length (a .pixels .now) / 4) (a .pixels .now) in
-    let n = length-spaced 4 (a .place) (length (a .pixels .now) / 4) (a .pixels .now) in
+    let s = strided 4 (a .place) (length (a .pixels .now) / 4) (a .pixels .now) in
+    let n = length-strided 4 (a .place) (length (a .pixels .now) / 4) (a .pixels .now) in
     let all : l .i + (a .n - l .i) ≡ a .n = omega arith in
-    over-part (a .dst .now) (l .dst) (f .last .1 .1 .1 .1 .0) s (a .from) (l .i) (a .n - l .i) (omega arith) (l .inv .1 .1) (f .ensures)
-    ∙ ap (λ (k : ℕ). over (a .dst .now) (take k (drop (a .from) s))) all
+    overwrite-part (a .dst .now) (l .dst) (f .last .1 .1 .1 .1 .0) s (a .from) (l .i) (a .n - l .i) (omega arith) (l .inv .1 .1) (f .ensures)
+    ∙ ap (λ (k : ℕ). overwrite (a .dst .now) (take k (drop (a .from) s))) all
 
 pub copy-channel-spec : {M : Type 1} → statement M
 copy-channel-spec =

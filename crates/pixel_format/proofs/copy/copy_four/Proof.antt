@@ -3,9 +3,9 @@ use mathlib.Core.Path.{refl}
 use Prim.Native.Nat.{_+_, _*_, _/_}
 use native.Mathlib.Omega.{arith}
 use lib.ListN.{length, length-set}
-use Rattle.rle_format.proofs.Slice.{put-four}
-use Rattle.pixel_format.specs.Channel.{spaced}
-use Rattle.pixel_format.proofs.Samples.{length-spaced, sample-at}
+use Rattle.rle_format.proofs.Slice.{write-four}
+use Rattle.pixel_format.specs.Channel.{strided}
+use Rattle.pixel_format.proofs.Samples.{length-strided, strided-at}
 use borrow.Author.Needs.{needs}
 use Rattle.pixel_format.proofs.copy.copy_four.Statement.{statement}
 use Rattle.pixel_format.proofs.copy.copy_four.Tie as tie
@@ -71,10 +71,10 @@ returns : tie.Need-returns
 returns c =
     let a = c .before .before .before .before .args in
     let m = length (a .pixels .now) / 4 in
-    let s = spaced 4 (a .place) m (a .pixels .now) in
-    let n = length-spaced 4 (a .place) m (a .pixels .now) in
-    let is = sample-at 4 (a .place) m (a .pixels .now) in
-    put-four (a .dst .now) s (a .from) (a .at) _ _ _ _ (omega arith) (omega arith)
+    let s = strided 4 (a .place) m (a .pixels .now) in
+    let n = length-strided 4 (a .place) m (a .pixels .now) in
+    let is = strided-at 4 (a .place) m (a .pixels .now) in
+    write-four (a .dst .now) s (a .from) (a .at) _ _ _ _ (omega arith) (omega arith)
     (is (a .from) _ (omega arith) refl)
     (is (a .from + 1) (a .from * 4 + a .place + 4) (omega arith) (omega arith))
     (is (a .from + 2) (a .from * 4 + a .place + 8) (omega arith) (omega arith))

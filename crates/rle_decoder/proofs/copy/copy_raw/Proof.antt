@@ -1,8 +1,8 @@
--- `copy_raw`: the first bytes and the last, which overlap, are all of them; or the kit's copy into the part that is lent. Assumes nothing.
+-- `copy_raw`: the first bytes and the last, which overlap, are all of them; or the library's copy into a part of dst. Assumes nothing.
 use Prim.Native.Nat.{_-_}
 use native.Mathlib.Omega.{arith}
 use lib.ListN.{length}
-use Rattle.rle_format.proofs.Slice.{put-ends, copied, lent-over}
+use Rattle.rle_format.proofs.Slice.{writeAt-two-ends, copied-overwrite, suffix-overwrite}
 use borrow.Author.Needs.{needs}
 use Rattle.rle_decoder.proofs.copy.copy_raw.Statement.{statement}
 use Rattle.rle_decoder.proofs.copy.copy_raw.Tie as tie
@@ -27,7 +27,7 @@ returns c =
     let one = c .before .before .before .before .before .before .copy-8 in
     let two = c .before .before .copy-82 in
     let a = c .before .before .before .before .before .before .before .before .before .before .before .args in
-    put-ends (a .dst .now) (one .last .1 .1 .0) (two .last .1 .1 .0) (a .raw .now) (a .at) 8 (length (a .raw .now) - 8) (omega arith) (omega arith) (omega arith)
+    writeAt-two-ends (a .dst .now) (one .last .1 .1 .0) (two .last .1 .1 .0) (a .raw .now) (a .at) 8 (length (a .raw .now) - 8) (omega arith) (omega arith) (omega arith)
     (one .ensures) (two .ensures)
 
 sub-last-2 : tie.Need-sub-last-2
@@ -50,7 +50,7 @@ returns-2 c =
     let one = c .before .before .before .before .before .before .copy-4 in
     let two = c .before .before .copy-42 in
     let a = c .before .before .before .before .before .before .before .before .before .before .before .before .args in
-    put-ends (a .dst .now) (one .last .1 .1 .0) (two .last .1 .1 .0) (a .raw .now) (a .at) 4 (length (a .raw .now) - 4) (omega arith) (omega arith) (omega arith)
+    writeAt-two-ends (a .dst .now) (one .last .1 .1 .0) (two .last .1 .1 .0) (a .raw .now) (a .at) 4 (length (a .raw .now) - 4) (omega arith) (omega arith) (omega arith)
     (one .ensures) (two .ensures)
 
 sub-copy : tie.Need-sub-copy
@@ -72,7 +72,7 @@ returns-3 : tie.Need-returns-3
 returns-3 c =
     let k = c .before .before .copy in
     let a = c .before .before .before .before .before .before .before .before .args in
-    lent-over (a .dst .now) (k .last .1 .0) (a .raw .now) (a .at) (copied _ (a .raw .now) _ (k .ensures .1))
+    suffix-overwrite (a .dst .now) (k .last .1 .0) (a .raw .now) (a .at) (copied-overwrite _ (a .raw .now) _ (k .ensures .1))
 
 pub copy-raw-spec : {M : Type 1} → statement M
 copy-raw-spec =

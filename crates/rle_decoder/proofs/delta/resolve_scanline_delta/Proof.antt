@@ -5,21 +5,21 @@ use mathlib.Core.Path.{_≡_, refl, sym, ap, _∙_}
 use native.Mathlib.Omega.{arith}
 use borrow.Author.Needs.{needs}
 use lib.Seq.{take-all}
-use Rattle.rle_format.specs.Slice.{putAt}
-use Rattle.rle_format.specs.Delta.{undelta}
-use Rattle.rle_format.proofs.Slice.{putAt-none}
-use Rattle.rle_format.proofs.Delta.{second, length-second, second-more}
+use Rattle.rle_format.specs.Slice.{writeAt}
+use Rattle.rle_format.specs.Delta.{undoDelta}
+use Rattle.rle_format.proofs.Slice.{writeAt-nil}
+use Rattle.rle_format.proofs.Delta.{restoredRow, length-restoredRow, restoredRow-step}
 use Rattle.rle_decoder.proofs.delta.resolve_scanline_delta.Statement.{statement}
 use Rattle.rle_decoder.proofs.delta.resolve_scanline_delta.Tie as tie
 
 abbrev Inv-loop : tie.InvT-loop
-Inv-loop rows₀ width i₀ rows i = (i ≤ width) × ((length rows ≡ length rows₀) × (rows ≡ putAt rows₀ width (take i (second rows₀ width))))
+Inv-loop rows₀ width i₀ rows i = (i ≤ width) × ((length rows ≡ length rows₀) × (rows ≡ writeAt rows₀ width (take i (restoredRow rows₀ width))))
 
 abbrev μ-loop : tie.MeasureT-loop
 μ-loop rows₀ width i₀ rows i = width - i
 
 loop-holds : tie.Need-loop-holds Inv-loop μ-loop
-loop-holds c = (omega arith, (refl, sym (putAt-none _ _)))
+loop-holds c = (omega arith, (refl, sym (writeAt-nil _ _)))
 
 slice-read-wrapping-add-u8 : tie.Need-slice-read-wrapping-add-u8 Inv-loop μ-loop
 slice-read-wrapping-add-u8 c = omega arith
@@ -49,24 +49,24 @@ loop-less : tie.Need-loop-less Inv-loop μ-loop
 loop-less c = omega arith
 
 loop-again : tie.Need-loop-again Inv-loop μ-loop
-unfolding undelta
+unfolding undoDelta
 loop-again c =
     let l = c .before .before .before .before .before .loop in
     let s = c .before .before .before .before .before .before .before in
     let a = s .args in
-    let v : c .wrapping-add-u8 .result ≡ undelta (getD (l .rows) (l .i) 0) (getD (l .rows) (a .width + l .i) 0) =
+    let v : c .wrapping-add-u8 .result ≡ undoDelta (getD (l .rows) (l .i) 0) (getD (l .rows) (a .width + l .i) 0) =
     c .wrapping-add-u8 .ensures ∙ ap (λ (d : ℕ). (getD (l .rows) (l .i) 0 + d) % 256) (c .before .transformed-delta .ensures) in
-    (omega arith, (simp length-set (omega arith), second-more (a .rows .now) (l .rows) (a .width) (l .i) (c .wrapping-add-u8 .result) (s .pre) (omega arith) (l .inv .1 .1) v))
+    (omega arith, (simp length-set (omega arith), restoredRow-step (a .rows .now) (l .rows) (a .width) (l .i) (c .wrapping-add-u8 .result) (s .pre) (omega arith) (l .inv .1 .1) v))
 
 same-length : tie.Need-same-length Inv-loop μ-loop
 same-length c = omega arith
 
 returns : tie.Need-returns Inv-loop μ-loop
-unfolding second
+unfolding restoredRow
 returns c =
     let a = c .before .before .before .args in
     let l = c .before .loop in
-    l .inv .1 .1 ∙ ap (putAt (a .rows .now) (a .width)) (take-all (l .i) (second (a .rows .now) (a .width)) (omega (arith, length-second (a .rows .now) (a .width) (c .before .before .before .pre))))
+    l .inv .1 .1 ∙ ap (writeAt (a .rows .now) (a .width)) (take-all (l .i) (restoredRow (a .rows .now) (a .width)) (omega (arith, length-restoredRow (a .rows .now) (a .width) (c .before .before .before .pre))))
 
 pub resolve-scanline-delta-spec : {M : Type 1} → statement M
 resolve-scanline-delta-spec =

@@ -1,4 +1,4 @@
--- `decode_scanline`: a turn of its loop is a segment; the invariant is `RowHead` of Turns.antt, whose laws answer the needs.
+-- `decode_scanline`: an iteration of its loop is a segment; the invariant is `RowInvariant` of RowLoop.antt, whose laws prove it.
 -- Assumes nothing.
 use mathlib.Core.Path.{_≡_, sym, ap, _∙_}
 use mathlib.Core.List.{List}
@@ -8,14 +8,14 @@ use borrow.Author.Needs.{needs}
 use lib.ListN.{length, drop, length-take, length-drop}
 use Rattle.rle_format.specs.Answer.{number}
 use Rattle.rle_format.specs.Segment.{readSegment}
-use Rattle.rle_decoder.specs.NextSegment.{read, answerTo, toldSegment, stoppedBy}
+use Rattle.rle_decoder.specs.NextSegment.{read, segmentAnswer, nextToAnswer, rowStop}
 use Rattle.rle_decoder.proofs.Segments.{found-segment}
-use Rattle.rle_decoder.proofs.Turns.{RowHead, row-first, row-full, row-refused, row-passes, row-turn}
+use Rattle.rle_decoder.proofs.RowLoop.{RowInvariant, row-start, row-full, row-refused, row-overruns, row-step}
 use Rattle.rle_decoder.proofs.row.decode_scanline.Statement.{statement}
 use Rattle.rle_decoder.proofs.row.decode_scanline.Tie as tie
 
 abbrev Inv-loop : tie.InvT-loop
-Inv-loop src from dst₀ width at₀ column₀ last₀ dst at column last = RowHead src dst₀ dst from width at column last
+Inv-loop src from dst₀ width at₀ column₀ last₀ dst at column last = RowInvariant src dst₀ dst from width at column last
 
 abbrev μ-loop : tie.MeasureT-loop
 μ-loop src from dst₀ width at₀ column₀ last₀ dst at column last = width - column
@@ -23,8 +23,8 @@ abbrev μ-loop : tie.MeasureT-loop
 -- a segment was read: what the reader's answer says
 known : (c : tie.After-segment Inv-loop μ-loop)
     → read (c .segment .given .0 .0) (c .segment .given .0 .1 .0) (c .segment .given .0 .1 .1 .0)
-    ≡ answerTo (c .before .before .before .before .loop .last) (readSegment (drop (c .before .before .before .before .loop .at) (c .before .before .before .before .before .before .before .args .src .now)))
-known c = sym (ap toldSegment (c .segment .given .1)) ∙ c .before .before .decompress-next-segment .ensures .0
+    ≡ segmentAnswer (c .before .before .before .before .loop .last) (readSegment (drop (c .before .before .before .before .loop .at) (c .before .before .before .before .before .before .before .args .src .now)))
+known c = sym (ap nextToAnswer (c .segment .given .1)) ∙ c .before .before .decompress-next-segment .ensures .0
 
 -- and so it lies within the body and is short
 record Turned (src : List ℕ) (at raw run : ℕ) : Type 0 where
@@ -43,7 +43,7 @@ turned c =
     record { within = f .within; some = f .some; few = e .1; short = e .0 }
 
 loop-holds : tie.Need-loop-holds Inv-loop μ-loop
-loop-holds c = row-first _ _ _ _
+loop-holds c = row-start _ _ _ _
 
 decompress-next-segment-requires : tie.Need-decompress-next-segment-requires Inv-loop μ-loop
 decompress-next-segment-requires c κs = search needs
@@ -54,8 +54,8 @@ enum-known-segment c = search needs
 enum-told : tie.Need-enum-told Inv-loop μ-loop
 enum-told c = search needs
 
-stopped-by-requires : tie.Need-stopped-by-requires Inv-loop μ-loop
-stopped-by-requires c κs = search needs
+row-stop-requires : tie.Need-row-stop-requires Inv-loop μ-loop
+row-stop-requires c κs = search needs
 
 same-length : tie.Need-same-length Inv-loop μ-loop
 same-length c = omega arith
@@ -67,9 +67,9 @@ returns c =
     let t = c .before .before .before .before .loop-test .taken in
     let d = c .before .before .before .decompress-next-segment in
     let a = s .args in
-    let told-so = ap toldSegment (c .before .enum-told .given .1) in
-    let r = row-refused (a .src .now) (a .dst .now) (l .dst) (a .from) (a .width) (l .at) (l .column) (l .last) (s .pre) (l .inv) t (number (c .before .enum-told .given .0 .0)) (sym told-so ∙ d .ensures .0) in
-    (c .stopped-by .ensures ∙ ap stoppedBy told-so ∙ r .0, r .1)
+    let answered = ap nextToAnswer (c .before .enum-told .given .1) in
+    let r = row-refused (a .src .now) (a .dst .now) (l .dst) (a .from) (a .width) (l .at) (l .column) (l .last) (s .pre) (l .inv) t (number (c .before .enum-told .given .0 .0)) (sym answered ∙ d .ensures .0) in
+    (c .row-stop .ensures ∙ ap rowStop answered ∙ r .0, r .1)
 
 sub-if1 : tie.Need-sub-if1 Inv-loop μ-loop
 sub-if1 c = omega arith
@@ -77,8 +77,8 @@ sub-if1 c = omega arith
 add-if1 : tie.Need-add-if1 Inv-loop μ-loop
 add-if1 c = omega (arith, turned (c .before) .few)
 
-stopped-by-requires-2 : tie.Need-stopped-by-requires-2 Inv-loop μ-loop
-stopped-by-requires-2 c κs = search needs
+row-stop-requires-2 : tie.Need-row-stop-requires-2 Inv-loop μ-loop
+row-stop-requires-2 c κs = search needs
 
 same-length-2 : tie.Need-same-length-2 Inv-loop μ-loop
 same-length-2 c = omega arith
@@ -90,8 +90,8 @@ returns-2 c =
     let t = k .before .before .before .loop-test .taken in
     let s = k .before .before .before .before .before .before .before in
     let a = s .args in
-    let r = row-passes (a .src .now) (a .dst .now) (l .dst) (a .from) (a .width) (l .at) (l .column) (l .last) (s .pre) (l .inv) t (k .segment .given .0 .0) (k .segment .given .0 .1 .0) (k .segment .given .0 .1 .1 .0) (known k) (c .before .if1 .taken) in
-    (c .stopped-by2 .ensures ∙ r .0, r .1)
+    let r = row-overruns (a .src .now) (a .dst .now) (l .dst) (a .from) (a .width) (l .at) (l .column) (l .last) (s .pre) (l .inv) t (k .segment .given .0 .0) (k .segment .given .0 .1 .0) (k .segment .given .0 .1 .1 .0) (known k) (c .before .if1 .taken) in
+    (c .row-stop2 .ensures ∙ r .0, r .1)
 
 add-start : tie.Need-add-start Inv-loop μ-loop
 add-start c = omega (arith, turned (c .before .before) .within)
@@ -130,7 +130,7 @@ loop-again c =
     let l = k .before .before .before .before .loop in
     let s = k .before .before .before .before .before .before .before in
     let a = s .args in
-    row-turn (a .src .now) (a .dst .now) (l .dst) (a .from) (a .width) (l .at) (l .column) (l .last) (s .pre) (l .inv) (k .before .before .before .loop-test .taken)
+    row-step (a .src .now) (a .dst .now) (l .dst) (a .from) (a .width) (l .at) (l .column) (l .last) (s .pre) (l .inv) (k .before .before .before .loop-test .taken)
     (k .segment .given .0 .0) (k .segment .given .0 .1 .0) (k .segment .given .0 .1 .1 .0) (known k) (c .before .before .write-segment .last .1 .1 .1 .0) (c .before .before .before .before .before .if1 .left) (c .before .before .write-segment .ensures)
 
 sub-t23 : tie.Need-sub-t23 Inv-loop μ-loop
@@ -156,12 +156,12 @@ decode-scanline-spec =
     decompress-next-segment-requires
     enum-known-segment
     enum-told
-    stopped-by-requires
+    row-stop-requires
     same-length
     returns
     sub-if1
     add-if1
-    stopped-by-requires-2
+    row-stop-requires-2
     same-length-2
     returns-2
     add-start

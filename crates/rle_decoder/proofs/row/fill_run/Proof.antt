@@ -3,19 +3,19 @@ use Prim.Native.Nat.{_≤_, _-_}
 use mathlib.Core.Path.{_≡_, refl, sym}
 use native.Mathlib.Omega.{arith}
 use lib.ListN.{length, replicate, length-set}
-use Rattle.rle_format.specs.Slice.{putAt}
-use Rattle.rle_format.proofs.Slice.{putAt-none, fill-more}
+use Rattle.rle_format.specs.Slice.{writeAt}
+use Rattle.rle_format.proofs.Slice.{writeAt-nil, fill-step}
 use Rattle.rle_decoder.proofs.row.fill_run.Statement.{statement}
 use Rattle.rle_decoder.proofs.row.fill_run.Tie as tie
 
 abbrev Inv-loop : tie.InvT-loop
-Inv-loop dst₀ at run value i₀ dst i = (i ≤ run) × ((length dst ≡ length dst₀) × (dst ≡ putAt dst₀ at (replicate i value)))
+Inv-loop dst₀ at run value i₀ dst i = (i ≤ run) × ((length dst ≡ length dst₀) × (dst ≡ writeAt dst₀ at (replicate i value)))
 
 abbrev μ-loop : tie.MeasureT-loop
 μ-loop dst₀ at run value i₀ dst i = run - i
 
 loop-holds : tie.Need-loop-holds Inv-loop μ-loop
-loop-holds c = (omega arith, (refl, sym (putAt-none _ _)))
+loop-holds c = (omega arith, (refl, sym (writeAt-nil _ _)))
 
 add-dst : tie.Need-add-dst Inv-loop μ-loop
 add-dst c = omega arith
@@ -33,7 +33,7 @@ loop-again : tie.Need-loop-again Inv-loop μ-loop
 loop-again c =
     let l = c .before .loop in
     let a = c .before .before .args in
-    (omega arith, (simp length-set (omega arith), fill-more (a .dst .now) (l .dst) (a .at) (a .value) (l .i) (l .inv .1 .1) (omega arith)))
+    (omega arith, (simp length-set (omega arith), fill-step (a .dst .now) (l .dst) (a .at) (a .value) (l .i) (l .inv .1 .1) (omega arith)))
 
 same-length : tie.Need-same-length Inv-loop μ-loop
 same-length c = omega arith

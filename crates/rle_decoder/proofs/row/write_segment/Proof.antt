@@ -1,5 +1,5 @@
 -- `write_segment`: two writes, one right behind the other. Assumes nothing.
-use Rattle.rle_format.proofs.Slice.{put-both}
+use Rattle.rle_format.proofs.Slice.{writeAt-append}
 use mathlib.Core.Path.{refl}
 use native.Mathlib.Omega.{arith}
 use lib.ListN.{length, replicate}
@@ -24,7 +24,7 @@ returns c =
     let f = c .before .before .fill-run in
     let k = c .before .before .before .before .before .before .copy-raw in
     let a = c .before .before .before .before .before .before .before .before .before .before .args in
-    put-both (a .dst .now) (k .last .1 .0) (f .last .0) (a .raw .now) (replicate (a .run) (a .last)) (a .column) (length (a .raw .now)) refl (omega arith) (k .ensures) (f .ensures)
+    writeAt-append (a .dst .now) (k .last .1 .0) (f .last .0) (a .raw .now) (replicate (a .run) (a .last)) (a .column) (length (a .raw .now)) refl (omega arith) (k .ensures) (f .ensures)
 
 pub write-segment-spec : {M : Type 1} → statement M
 write-segment-spec =

@@ -4,20 +4,20 @@ use Prim.Native.Nat.{_≤_, _-_}
 use native.Mathlib.Omega.{arith}
 use borrow.Author.Needs.{needs}
 use lib.ListN.{length}
-use Rattle.rle_format.specs.Delta.{deltaCode, columns}
-use Rattle.rle_format.proofs.Delta.{length-columns, getD-columns}
-use Rattle.rle_encoder.proofs.Replaced.{Replaced, replaced-none, replaced-next, replaced-more, replaced-all}
+use Rattle.rle_format.specs.Delta.{deltaCode, zipWith}
+use Rattle.rle_format.proofs.Delta.{length-zipWith, getD-zipWith}
+use Rattle.rle_encoder.proofs.Replaced.{Replaced, replaced-start, replaced-next, replaced-step, replaced-end}
 use Rattle.rle_encoder.proofs.delta.delta_row.Statement.{statement}
 use Rattle.rle_encoder.proofs.delta.delta_row.Tie as tie
 
 abbrev Inv-loop : tie.InvT-loop
-Inv-loop above₀ codes₀ i₀ above codes i = (i ≤ length codes₀) × Replaced above₀ codes₀ above i × Replaced codes₀ (columns deltaCode above₀ codes₀) codes i
+Inv-loop above₀ codes₀ i₀ above codes i = (i ≤ length codes₀) × Replaced above₀ codes₀ above i × Replaced codes₀ (zipWith deltaCode above₀ codes₀) codes i
 
 abbrev μ-loop : tie.MeasureT-loop
 μ-loop above₀ codes₀ i₀ above codes i = length codes₀ - i
 
 loop-holds : tie.Need-loop-holds Inv-loop μ-loop
-loop-holds c = (omega arith, replaced-none _ _, replaced-none _ _)
+loop-holds c = (omega arith, replaced-start _ _, replaced-start _ _)
 
 slice-read-sample : tie.Need-slice-read-sample Inv-loop μ-loop
 slice-read-sample c = omega arith
@@ -45,11 +45,11 @@ loop-again c =
     let l = c .before .before .before .before .loop in
     let a = c .before .before .before .before .before .before .before .args in
     let i = l .i in
-    let coded = length-columns deltaCode (a .above .now) (a .codes .now) (omega arith) in
-    let is = getD-columns deltaCode (a .above .now) (a .codes .now) i (omega arith) (omega arith) in (
+    let coded = length-zipWith deltaCode (a .above .now) (a .codes .now) (omega arith) in
+    let is = getD-zipWith deltaCode (a .above .now) (a .codes .now) i (omega arith) (omega arith) in (
       omega arith,
-      replaced-more (l .inv .1) _ (omega arith) (omega arith) (replaced-next (l .inv .2)),
-      replaced-more (l .inv .2) _ (omega arith) (omega arith) (c .delta-value .ensures ∙ (λ j. deltaCode (replaced-next (l .inv .1) j) (replaced-next (l .inv .2) j)) ∙ sym is),
+      replaced-step (l .inv .1) _ (omega arith) (omega arith) (replaced-next (l .inv .2)),
+      replaced-step (l .inv .2) _ (omega arith) (omega arith) (c .delta-value .ensures ∙ (λ j. deltaCode (replaced-next (l .inv .1) j) (replaced-next (l .inv .2) j)) ∙ sym is),
     )
 
 same-length : tie.Need-same-length Inv-loop μ-loop
@@ -62,8 +62,8 @@ returns : tie.Need-returns Inv-loop μ-loop
 returns c =
     let a = c .before .before .before .before .args in
     let l = c .before .loop in
-    let coded = length-columns deltaCode (a .above .now) (a .codes .now) (omega arith) in
-    (replaced-all (l .inv .2) (omega arith) (omega arith), replaced-all (l .inv .1) (omega arith) (omega arith))
+    let coded = length-zipWith deltaCode (a .above .now) (a .codes .now) (omega arith) in
+    (replaced-end (l .inv .2) (omega arith) (omega arith), replaced-end (l .inv .1) (omega arith) (omega arith))
 
 pub delta-row-spec : {M : Type 1} → statement M
 delta-row-spec =

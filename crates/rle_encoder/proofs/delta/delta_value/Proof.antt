@@ -1,6 +1,6 @@
 -- `delta_value`: the code of the difference that the wrapping subtraction gives. Assumes nothing.
 use native.Mathlib.Omega.{arith}
-use Rattle.rle_format.proofs.Delta.{code-under, code-over}
+use Rattle.rle_format.proofs.Delta.{deltaCode-small, deltaCode-large}
 use borrow.Author.Needs.{needs}
 use Rattle.rle_encoder.proofs.delta.delta_value.Statement.{statement}
 use Rattle.rle_encoder.proofs.delta.delta_value.Tie as tie
@@ -24,13 +24,13 @@ returns : tie.Need-returns
 returns c =
     let a = c .before .before .args in
     let d = c .before .wrapping-sub-u8 in
-    code-under (a .prev) (a .next) (d .result) (omega arith) (omega arith) (d .ensures) (c .if1 .taken)
+    deltaCode-small (a .prev) (a .next) (d .result) (omega arith) (omega arith) (d .ensures) (c .if1 .taken)
 
 returns-2 : tie.Need-returns-2
 returns-2 c =
     let a = c .before .before .args in
     let d = c .before .wrapping-sub-u8 in
-    code-over (a .prev) (a .next) (d .result) (omega arith) (omega arith) (d .ensures) (c .if1 .left)
+    deltaCode-large (a .prev) (a .next) (d .result) (omega arith) (omega arith) (d .ensures) (c .if1 .left)
 
 pub delta-value-spec : {M : Type 1} → statement M
 delta-value-spec =

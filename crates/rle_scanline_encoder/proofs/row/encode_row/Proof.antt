@@ -3,15 +3,15 @@ use Prim.Native.Nat.{_+_, _-_}
 use native.Mathlib.Omega.{arith}
 use borrow.Author.Needs.{needs}
 use lib.ListN.{length, take, drop}
-use Rattle.rle_format.specs.Pack.{segmentsOf, rowSegments}
-use Rattle.rle_scanline_encoder.specs.RowEnd.{rowEnd}
-use Rattle.rle_format.proofs.Head.{WriteHead, head-first, head-rest, head-turn, head-stop, head-last}
-use Rattle.rle_scanline_encoder.proofs.Scan.{Scanned, scan, scan-begins, scan-same, scan-joins, scan-ends, scan-closes, scanned-begins, scanned-new, scanned-same}
+use Rattle.rle_format.specs.Pack.{splitSegments, rowSegments}
+use Rattle.rle_scanline_encoder.specs.RowEnd.{rowEndSegments}
+use Rattle.rle_format.proofs.WriteLoop.{WriteInvariant, write-start, write-same-rest, write-next, write-stop, write-last}
+use Rattle.rle_scanline_encoder.proofs.Scan.{Scanned, scan, scan-start, scan-repeat, scan-join, scan-close, scan-end, scanned-start, scanned-new, scanned-repeat}
 use Rattle.rle_scanline_encoder.proofs.row.encode_row.Statement.{statement}
 use Rattle.rle_scanline_encoder.proofs.row.encode_row.Tie as tie
 
 abbrev Inv-loop : tie.InvT-loop
-Inv-loop codes dst₀ start₀ last₀ to₀ i₀ dst start last to i = Scanned codes start last i × WriteHead (rowSegments codes) (scan codes start last i) dst₀ dst 0 to
+Inv-loop codes dst₀ start₀ last₀ to₀ i₀ dst start last to i = Scanned codes start last i × WriteInvariant (rowSegments codes) (scan codes start last i) dst₀ dst 0 to
 
 abbrev μ-loop : tie.MeasureT-loop
 μ-loop codes dst₀ start₀ last₀ to₀ i₀ dst start last to i = length codes - i
@@ -19,8 +19,8 @@ abbrev μ-loop : tie.MeasureT-loop
 loop-holds : tie.Need-loop-holds Inv-loop μ-loop
 loop-holds c =
     let a = c .before .before .args in (
-      scanned-begins (a .codes .now) (omega arith),
-      head-rest (head-first (rowSegments (a .codes .now)) (a .dst .now) 0 (omega arith)) (scan (a .codes .now) 0 0 1) (scan-begins (a .codes .now) (omega arith)),
+      scanned-start (a .codes .now) (omega arith),
+      write-same-rest (write-start (rowSegments (a .codes .now)) (a .dst .now) 0 (omega arith)) (scan (a .codes .now) 0 0 1) (scan-start (a .codes .now) (omega arith)),
     )
 
 shared-slice-read-if1 : tie.Need-shared-slice-read-if1 Inv-loop μ-loop
@@ -39,8 +39,8 @@ loop-again : tie.Need-loop-again Inv-loop μ-loop
 loop-again c =
     let l = c .before .before .before .before .loop in
     let codes = c .before .before .before .before .before .before .before .args .codes .now in (
-      scanned-same codes (l .start) (l .last) (l .i) (l .inv .0) (omega arith) (c .if1 .taken),
-      head-rest (l .inv .1) (scan codes (l .start) (l .last) (l .i + 1)) (scan-same codes (l .start) (l .last) (l .i) (l .inv .0) (omega arith) (c .if1 .taken)),
+      scanned-repeat codes (l .start) (l .last) (l .i) (l .inv .0) (omega arith) (c .if1 .taken),
+      write-same-rest (l .inv .1) (scan codes (l .start) (l .last) (l .i + 1)) (scan-repeat codes (l .start) (l .last) (l .i) (l .inv .0) (omega arith) (c .if1 .taken)),
     )
 
 sub-if2 : tie.Need-sub-if2 Inv-loop μ-loop
@@ -60,8 +60,8 @@ loop-again-2 c =
     let l = c .before .before .before .before .before .loop in
     let codes = c .before .before .before .before .before .before .before .before .args .codes .now in (
       scanned-new codes (l .start) (l .i) (omega arith) (omega arith),
-      head-rest (l .inv .1) (scan codes (l .start) (l .i) (l .i + 1))
-          (scan-joins codes (l .start) (l .last) (l .i) (l .inv .0) (omega arith) (c .before .if1 .left) (omega arith)),
+      write-same-rest (l .inv .1) (scan codes (l .start) (l .i) (l .i + 1))
+          (scan-join codes (l .start) (l .last) (l .i) (l .inv .0) (omega arith) (c .before .if1 .left) (omega arith)),
     )
 
 add-encode-segment : tie.Need-add-encode-segment Inv-loop μ-loop
@@ -99,9 +99,9 @@ returns c =
     let l = c .before .before .before .before .before .before .before .before .before .before .before .before .loop in
     let codes = c .before .before .before .before .before .before .before .before .before .before .before .before .before .before .before .args .codes .now in
     let call = c .before .before .before .before .encode-segment in
-    head-stop (l .inv .1) (segmentsOf (take (l .last + 1 - l .start) (drop (l .start) codes)) (l .i - l .last - 1)) (scan codes (l .i) (l .i) (l .i + 1))
+    write-stop (l .inv .1) (splitSegments (take (l .last + 1 - l .start) (drop (l .start) codes)) (l .i - l .last - 1)) (scan codes (l .i) (l .i) (l .i + 1))
     (call .last .1 .1 .0) (call .result) (c .enum-told .given .0 .0)
-    (scan-ends codes (l .start) (l .last) (l .i) (l .inv .0) (omega arith) (c .before .before .before .before .before .before .before .before .if1 .left) (omega arith)) (call .ensures) (c .enum-told .given .1)
+    (scan-close codes (l .start) (l .last) (l .i) (l .inv .0) (omega arith) (c .before .before .before .before .before .before .before .before .if1 .left) (omega arith)) (call .ensures) (c .enum-told .given .1)
 
 add-i-3 : tie.Need-add-i-3 Inv-loop μ-loop
 add-i-3 c = search needs
@@ -115,9 +115,9 @@ loop-again-3 c =
     let codes = c .before .before .before .before .before .before .before .before .before .before .before .before .before .before .before .before .args .codes .now in
     let call = c .before .before .before .before .before .encode-segment in (
       scanned-new codes (l .i) (l .i) (omega arith) (omega arith),
-      head-turn (l .inv .1) (segmentsOf (take (l .last + 1 - l .start) (drop (l .start) codes)) (l .i - l .last - 1)) (scan codes (l .i) (l .i) (l .i + 1))
+      write-next (l .inv .1) (splitSegments (take (l .last + 1 - l .start) (drop (l .start) codes)) (l .i - l .last - 1)) (scan codes (l .i) (l .i) (l .i + 1))
           (call .last .1 .1 .0) (call .result) (c .before .answer .given .0 .0)
-          (scan-ends codes (l .start) (l .last) (l .i) (l .inv .0) (omega arith) (c .before .before .before .before .before .before .before .before .before .if1 .left) (omega arith)) (call .ensures) (c .before .answer .given .1),
+          (scan-close codes (l .start) (l .last) (l .i) (l .inv .0) (omega arith) (c .before .before .before .before .before .before .before .before .before .if1 .left) (omega arith)) (call .ensures) (c .before .answer .given .1),
     )
 
 encode-row-end-requires : tie.Need-encode-row-end-requires Inv-loop μ-loop
@@ -131,7 +131,7 @@ returns-2 c =
     let l = c .before .before .before .before .before .loop in
     let codes = c .before .before .before .before .before .before .before .before .args .codes .now in
     let call = c .before .before .encode-row-end in
-    head-last (head-rest (l .inv .1) (rowEnd codes (l .start) (l .last)) (scan-closes codes (l .start) (l .last) (l .i) (l .inv .0) (omega arith)))
+    write-last (write-same-rest (l .inv .1) (rowEndSegments codes (l .start) (l .last)) (scan-end codes (l .start) (l .last) (l .i) (l .inv .0) (omega arith)))
     (call .last .1 .1 .1 .0) (call .result) (call .ensures)
 
 pub encode-row-spec : {M : Type 1} → statement M

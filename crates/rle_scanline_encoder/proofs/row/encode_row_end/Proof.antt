@@ -1,11 +1,11 @@
 -- `encode_row_end`: the last segment by the same rule. Assumes nothing.
 use Prim.Native.Nat.{ℕ, _+_, _-_}
 use lib.ListN.{length, take, drop}
-use Rattle.rle_format.specs.Pack.{segmentsOf}
-use Rattle.rle_format.proofs.Slice.{tail-is}
-use Rattle.rle_scanline_encoder.specs.RowEnd.{rowEnd}
-use Rattle.rle_format.proofs.Head.{head-first, head-rest, head-last}
-use Rattle.rle_scanline_encoder.proofs.Scan.{run-end, raw-end}
+use Rattle.rle_format.specs.Pack.{splitSegments}
+use Rattle.rle_format.proofs.Slice.{suffix-drop}
+use Rattle.rle_scanline_encoder.specs.RowEnd.{rowEndSegments}
+use Rattle.rle_format.proofs.WriteLoop.{write-start, write-same-rest, write-last}
+use Rattle.rle_scanline_encoder.proofs.Scan.{rowEndSegments-run, rowEndSegments-raw}
 use native.Mathlib.Omega.{arith}
 use mathlib.Core.Path.{sym, ap, _∙_}
 use mathlib.Core.List.{List}
@@ -39,8 +39,8 @@ returns c =
     let a = c .before .before .before .before .before .before .before .before .args in
     let codes = a .codes .now in
     let call = c .before .before .encode-segment in
-    head-last (head-rest (head-first (rowEnd codes (a .start) (a .last)) (a .dst .now) (a .at) (omega arith)) (segmentsOf (take (length codes - a .start) (drop (a .start) codes)) 0)
-    (raw-end codes (a .start) (a .last) (omega arith) ∙ ap (λ (l : List ℕ). segmentsOf l 0) (sym (tail-is codes (a .start)))))
+    write-last (write-same-rest (write-start (rowEndSegments codes (a .start) (a .last)) (a .dst .now) (a .at) (omega arith)) (splitSegments (take (length codes - a .start) (drop (a .start) codes)) 0)
+    (rowEndSegments-raw codes (a .start) (a .last) (omega arith) ∙ ap (λ (l : List ℕ). splitSegments l 0) (sym (suffix-drop codes (a .start)))))
     (call .last .1 .1 .0) (call .result) (call .ensures)
 
 add-encode-segment : tie.Need-add-encode-segment
@@ -66,8 +66,8 @@ returns-2 c =
     let a = c .before .before .before .before .before .before .before .before .args in
     let codes = a .codes .now in
     let call = c .before .before .encode-segment2 in
-    head-last (head-rest (head-first (rowEnd codes (a .start) (a .last)) (a .dst .now) (a .at) (omega arith)) (segmentsOf (take (a .last + 1 - a .start) (drop (a .start) codes)) (length codes - a .last - 1))
-    (run-end codes (a .start) (a .last) (omega arith)))
+    write-last (write-same-rest (write-start (rowEndSegments codes (a .start) (a .last)) (a .dst .now) (a .at) (omega arith)) (splitSegments (take (a .last + 1 - a .start) (drop (a .start) codes)) (length codes - a .last - 1))
+    (rowEndSegments-run codes (a .start) (a .last) (omega arith)))
     (call .last .1 .1 .0) (call .result) (call .ensures)
 
 pub encode-row-end-spec : {M : Type 1} → statement M

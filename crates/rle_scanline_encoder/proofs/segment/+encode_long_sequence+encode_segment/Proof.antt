@@ -1,13 +1,13 @@
 -- `encode_segment` and `encode_long_sequence`, which call each other. The measure of each is the run that it is given, which falls at every
--- call. Each loop keeps that writing what is left, from here on, is writing all (`WriteHead`). Assumes nothing.
+-- call. Each loop keeps that writing what is left, from here on, is writing all (`WriteInvariant`). Assumes nothing.
 use mathlib.Core.List.{[], _∷_}
 use native.Mathlib.Omega.{arith}
 use borrow.Author.Needs.{needs}
 use lib.ListN.{length, getD, take, drop}
-use Rattle.rle_format.specs.Pack.{literal, repeat, segmentsOf, longRun}
-use Rattle.rle_format.proofs.SegmentSteps.{longRun-none}
-use Rattle.rle_format.proofs.Head.{WriteHead, head-first, head-rest, head-turn, head-stop, head-last, head-done}
-use Rattle.rle_scanline_encoder.proofs.Steps.{long-turn, rest-left, segment-turn, segment-last}
+use Rattle.rle_format.specs.Pack.{literal, repeat, splitSegments, longRun}
+use Rattle.rle_format.proofs.SegmentSteps.{longRun-0}
+use Rattle.rle_format.proofs.WriteLoop.{WriteInvariant, write-start, write-same-rest, write-next, write-stop, write-last, write-end}
+use Rattle.rle_scanline_encoder.proofs.Steps.{longRun-part, longRun-rest, split-step, split-last}
 use Prim.Native.Nat.{ℕ, _+_, _-_, _≤_, _<_}
 use borrow.Fn.Kinds.{In}
 use borrow.Fn.PlainCycle.{Measures, is, falls, and}
@@ -17,9 +17,9 @@ use Rattle.rle_scanline_encoder.proofs.segment.+encode_long_sequence+en
 use Rattle.rle_scanline_encoder.proofs.segment.encode_segment.Reads as encode-segment
 use Rattle.rle_scanline_encoder.proofs.segment.encode_segment.Kinds as encode-segment-kinds
 use Rattle.rle_scanline_encoder.proofs.segment.+encode_long_sequence+encode_segment.Lts-encode_segment as encode-segment-lts
-use Rattle.rle_scanline_encoder.proofs.segment.next_part.Reads as next-part-reads
-use Rattle.rle_scanline_encoder.proofs.segment.raw_part.Reads as raw-part-reads
-use Rattle.rle_scanline_encoder.proofs.segment.run_capped.Reads as run-capped-reads
+use Rattle.rle_scanline_encoder.proofs.segment.long_run_part.Reads as long-run-part-reads
+use Rattle.rle_scanline_encoder.proofs.segment.raw_count_of_rest.Reads as raw-count-of-rest-reads
+use Rattle.rle_scanline_encoder.proofs.segment.short_run_part.Reads as short-run-part-reads
 use Rattle.rle_scanline_encoder.proofs.segment.write_literal.Reads as write-literal-reads
 use Rattle.rle_scanline_encoder.proofs.segment.write_repeat.Reads as write-repeat-reads
 use Rattle.rle_scanline_encoder.proofs.segment.+encode_long_sequence+encode_segment.{statement}
@@ -65,22 +65,22 @@ encode-segment-below t =
 
 -- what each may use of the functions that it calls: their contracts, of the other one for a smaller run
 abbrev long-claims : ℕ → encode-long-sequence-lts.Claims
-long-claims t = (next-part-reads.Asked, next-part-reads.Learnt, write-repeat-reads.Asked, write-repeat-reads.Learnt, raw-part-reads.Asked, raw-part-reads.Learnt, encode-segment-below t, encode-segment.Post)
+long-claims t = (long-run-part-reads.Asked, long-run-part-reads.Learnt, write-repeat-reads.Asked, write-repeat-reads.Learnt, raw-count-of-rest-reads.Asked, raw-count-of-rest-reads.Learnt, encode-segment-below t, encode-segment.Post)
 
 abbrev segment-claims : ℕ → encode-segment-lts.Claims
-segment-claims t = (write-literal-reads.Asked, write-literal-reads.Learnt, run-capped-reads.Asked, run-capped-reads.Learnt, encode-long-sequence-below t, encode-long-sequence.Post)
+segment-claims t = (write-literal-reads.Asked, write-literal-reads.Learnt, short-run-part-reads.Asked, short-run-part-reads.Learnt, encode-long-sequence-below t, encode-long-sequence.Post)
 
 abbrev encode-long-sequence-Inv-loop : encode-long-sequence-lts.InvT-loop
-encode-long-sequence-Inv-loop run last dst₀ at left₀ to₀ dst left to = (left ≤ run) × WriteHead (longRun last run) (longRun last left) dst₀ dst at to
+encode-long-sequence-Inv-loop run last dst₀ at left₀ to₀ dst left to = (left ≤ run) × WriteInvariant (longRun last run) (longRun last left) dst₀ dst at to
 
 abbrev encode-long-sequence-μ-loop : encode-long-sequence-lts.MeasureT-loop
 encode-long-sequence-μ-loop run last dst₀ at left₀ to₀ dst left to = left
 
 encode-long-sequence-loop-holds : (t : ℕ) → encode-long-sequence-lts.Need-loop-holds (long-claims t) (encode-long-sequence-at t) encode-long-sequence.Post encode-long-sequence-Inv-loop encode-long-sequence-μ-loop
-encode-long-sequence-loop-holds t c = let a = c .before .args in (omega arith, head-first (longRun (a .last) (a .run)) (a .dst .now) (a .at) (omega arith))
+encode-long-sequence-loop-holds t c = let a = c .before .args in (omega arith, write-start (longRun (a .last) (a .run)) (a .dst .now) (a .at) (omega arith))
 
-encode-long-sequence-next-part-requires : (t : ℕ) → encode-long-sequence-lts.Need-next-part-requires (long-claims t) (encode-long-sequence-at t) encode-long-sequence.Post encode-long-sequence-Inv-loop encode-long-sequence-μ-loop
-encode-long-sequence-next-part-requires t c κs = search needs
+encode-long-sequence-long-run-part-requires : (t : ℕ) → encode-long-sequence-lts.Need-long-run-part-requires (long-claims t) (encode-long-sequence-at t) encode-long-sequence.Post encode-long-sequence-Inv-loop encode-long-sequence-μ-loop
+encode-long-sequence-long-run-part-requires t c κs = search needs
 
 encode-long-sequence-write-repeat-requires : (t : ℕ) → encode-long-sequence-lts.Need-write-repeat-requires (long-claims t) (encode-long-sequence-at t) encode-long-sequence.Post encode-long-sequence-Inv-loop encode-long-sequence-μ-loop
 encode-long-sequence-write-repeat-requires t c κs = search needs
@@ -98,10 +98,10 @@ encode-long-sequence-returns : (t : ℕ) → encode-long-sequence-lts.Need-retur
 encode-long-sequence-returns t c =
     let l = c .before .before .before .before .before .before .before .before .loop in
     let a = c .before .before .before .before .before .before .before .before .before .before .args in
-    let part = c .before .before .before .before .before .before .next-part in
+    let part = c .before .before .before .before .before .before .long-run-part in
     let put = c .before .before .before .before .write-repeat in
-    head-stop (l .inv .1) (repeat (part .result) ∷ []) (longRun (a .last) (l .left - part .result)) (put .last .1 .0) (put .result) (c .enum-told .given .0 .0)
-    (long-turn (a .last) (l .left) (part .result) (omega arith) (part .ensures)) (put .ensures) (c .enum-told .given .1)
+    write-stop (l .inv .1) (repeat (part .result) ∷ []) (longRun (a .last) (l .left - part .result)) (put .last .1 .0) (put .result) (c .enum-told .given .0 .0)
+    (longRun-part (a .last) (l .left) (part .result) (omega arith) (part .ensures)) (put .ensures) (c .enum-told .given .1)
 
 encode-long-sequence-sub-left : (t : ℕ) → encode-long-sequence-lts.Need-sub-left (long-claims t) (encode-long-sequence-at t) encode-long-sequence.Post encode-long-sequence-Inv-loop encode-long-sequence-μ-loop
 encode-long-sequence-sub-left t c = search needs
@@ -113,21 +113,21 @@ encode-long-sequence-loop-again : (t : ℕ) → encode-long-sequence-lts.Need-lo
 encode-long-sequence-loop-again t c =
     let l = c .before .before .before .before .before .before .before .before .before .loop in
     let a = c .before .before .before .before .before .before .before .before .before .before .before .args in
-    let part = c .before .before .before .before .before .before .before .next-part in
+    let part = c .before .before .before .before .before .before .before .long-run-part in
     let put = c .before .before .before .before .before .write-repeat in (
       omega arith,
-      head-turn (l .inv .1) (repeat (part .result) ∷ []) (longRun (a .last) (l .left - part .result)) (put .last .1 .0) (put .result) (c .before .answer .given .0 .0)
-          (long-turn (a .last) (l .left) (part .result) (omega arith) (part .ensures)) (put .ensures) (c .before .answer .given .1),
+      write-next (l .inv .1) (repeat (part .result) ∷ []) (longRun (a .last) (l .left - part .result)) (put .last .1 .0) (put .result) (c .before .answer .given .0 .0)
+          (longRun-part (a .last) (l .left) (part .result) (omega arith) (part .ensures)) (put .ensures) (c .before .answer .given .1),
     )
 
 encode-long-sequence-same-length-2 : (t : ℕ) → encode-long-sequence-lts.Need-same-length-2 (long-claims t) (encode-long-sequence-at t) encode-long-sequence.Post encode-long-sequence-Inv-loop encode-long-sequence-μ-loop
 encode-long-sequence-same-length-2 t c = search needs
 
 encode-long-sequence-returns-2 : (t : ℕ) → encode-long-sequence-lts.Need-returns-2 (long-claims t) (encode-long-sequence-at t) encode-long-sequence.Post encode-long-sequence-Inv-loop encode-long-sequence-μ-loop
-encode-long-sequence-returns-2 t c = let l = c .before .before .loop in head-done (l .inv .1) (longRun-none (c .before .before .before .before .args .last) (l .left) (omega arith))
+encode-long-sequence-returns-2 t c = let l = c .before .before .loop in write-end (l .inv .1) (longRun-0 (c .before .before .before .before .args .last) (l .left) (omega arith))
 
-encode-long-sequence-raw-part-requires : (t : ℕ) → encode-long-sequence-lts.Need-raw-part-requires (long-claims t) (encode-long-sequence-at t) encode-long-sequence.Post encode-long-sequence-Inv-loop encode-long-sequence-μ-loop
-encode-long-sequence-raw-part-requires t c κs = search needs
+encode-long-sequence-raw-count-of-rest-requires : (t : ℕ) → encode-long-sequence-lts.Need-raw-count-of-rest-requires (long-claims t) (encode-long-sequence-at t) encode-long-sequence.Post encode-long-sequence-Inv-loop encode-long-sequence-μ-loop
+encode-long-sequence-raw-count-of-rest-requires t c κs = search needs
 
 encode-long-sequence-sub-encode-segment : (t : ℕ) → encode-long-sequence-lts.Need-sub-encode-segment (long-claims t) (encode-long-sequence-at t) encode-long-sequence.Post encode-long-sequence-Inv-loop encode-long-sequence-μ-loop
 encode-long-sequence-sub-encode-segment t c = search needs
@@ -151,19 +151,19 @@ encode-long-sequence-returns-3 : (t : ℕ) → encode-long-sequence-lts.Need-ret
 encode-long-sequence-returns-3 t c =
     let l = c .before .before .before .before .before .before .before .before .before .loop in
     let last = c .before .before .before .before .before .before .before .before .before .before .before .args .last in
-    let count = c .before .before .before .before .before .before .raw-part in
+    let count = c .before .before .before .before .before .before .raw-count-of-rest in
     let call = c .before .before .encode-segment in
-    head-last (head-rest (l .inv .1) (segmentsOf (take (count .result - 0) (last ∷ last ∷ last ∷ [])) (l .left - count .result)) (rest-left last (l .left) (count .result) (omega arith) (omega arith) (count .ensures .1)))
+    write-last (write-same-rest (l .inv .1) (splitSegments (take (count .result - 0) (last ∷ last ∷ last ∷ [])) (l .left - count .result)) (longRun-rest last (l .left) (count .result) (omega arith) (omega arith) (count .ensures .1)))
     (call .last .1 .1 .0) (call .result) (call .ensures)
 
 abbrev encode-segment-Inv-loop : encode-segment-lts.InvT-loop
-encode-segment-Inv-loop raw run dst₀ at start₀ to₀ dst start to = (start < length raw) × WriteHead (segmentsOf raw run) (segmentsOf (drop start raw) run) dst₀ dst at to
+encode-segment-Inv-loop raw run dst₀ at start₀ to₀ dst start to = (start < length raw) × WriteInvariant (splitSegments raw run) (splitSegments (drop start raw) run) dst₀ dst at to
 
 abbrev encode-segment-μ-loop : encode-segment-lts.MeasureT-loop
 encode-segment-μ-loop raw run dst₀ at start₀ to₀ dst start to = length raw - start
 
 encode-segment-loop-holds : (t : ℕ) → encode-segment-lts.Need-loop-holds (segment-claims t) (encode-segment-at t) encode-segment.Post encode-segment-Inv-loop encode-segment-μ-loop
-encode-segment-loop-holds t c = let a = c .before .before .args in (omega arith, head-first (segmentsOf (a .raw .now) (a .run)) (a .dst .now) (a .at) (omega arith))
+encode-segment-loop-holds t c = let a = c .before .before .args in (omega arith, write-start (splitSegments (a .raw .now) (a .run)) (a .dst .now) (a .at) (omega arith))
 
 encode-segment-sub-loop : (t : ℕ) → encode-segment-lts.Need-sub-loop (segment-claims t) (encode-segment-at t) encode-segment.Post encode-segment-Inv-loop encode-segment-μ-loop
 encode-segment-sub-loop t c = search needs
@@ -197,8 +197,8 @@ encode-segment-returns t c =
     let l = c .before .before .before .before .before .before .before .before .loop in
     let a = c .before .before .before .before .before .before .before .before .before .before .before .args in
     let put = c .before .before .before .before .write-literal in
-    head-stop (l .inv .1) (literal (take (l .start + 15 - l .start) (drop (l .start) (a .raw .now))) 0 ∷ []) (segmentsOf (drop (l .start + 15) (a .raw .now)) (a .run))
-    (put .last .1 .1 .0) (put .result) (c .enum-told .given .0 .0) (segment-turn (a .raw .now) (a .run) (l .start) (omega arith)) (put .ensures) (c .enum-told .given .1)
+    write-stop (l .inv .1) (literal (take (l .start + 15 - l .start) (drop (l .start) (a .raw .now))) 0 ∷ []) (splitSegments (drop (l .start + 15) (a .raw .now)) (a .run))
+    (put .last .1 .1 .0) (put .result) (c .enum-told .given .0 .0) (split-step (a .raw .now) (a .run) (l .start) (omega arith)) (put .ensures) (c .enum-told .given .1)
 
 encode-segment-add-start : (t : ℕ) → encode-segment-lts.Need-add-start (segment-claims t) (encode-segment-at t) encode-segment.Post encode-segment-Inv-loop encode-segment-μ-loop
 encode-segment-add-start t c = search needs
@@ -212,8 +212,8 @@ encode-segment-loop-again t c =
     let a = c .before .before .before .before .before .before .before .before .before .before .before .before .args in
     let put = c .before .before .before .before .before .write-literal in (
       omega arith,
-      head-turn (l .inv .1) (literal (take (l .start + 15 - l .start) (drop (l .start) (a .raw .now))) 0 ∷ []) (segmentsOf (drop (l .start + 15) (a .raw .now)) (a .run))
-          (put .last .1 .1 .0) (put .result) (c .before .answer .given .0 .0) (segment-turn (a .raw .now) (a .run) (l .start) (omega arith)) (put .ensures) (c .before .answer .given .1),
+      write-next (l .inv .1) (literal (take (l .start + 15 - l .start) (drop (l .start) (a .raw .now))) 0 ∷ []) (splitSegments (drop (l .start + 15) (a .raw .now)) (a .run))
+          (put .last .1 .1 .0) (put .result) (c .before .answer .given .0 .0) (split-step (a .raw .now) (a .run) (l .start) (omega arith)) (put .ensures) (c .before .answer .given .1),
     )
 
 encode-segment-sub-write-literal-2 : (t : ℕ) → encode-segment-lts.Need-sub-write-literal-2 (segment-claims t) (encode-segment-at t) encode-segment.Post encode-segment-Inv-loop encode-segment-μ-loop
@@ -225,8 +225,8 @@ encode-segment-part-write-literal-start-2 t c = search needs
 encode-segment-part-write-literal-end-2 : (t : ℕ) → encode-segment-lts.Need-part-write-literal-end-2 (segment-claims t) (encode-segment-at t) encode-segment.Post encode-segment-Inv-loop encode-segment-μ-loop
 encode-segment-part-write-literal-end-2 t c = search needs
 
-encode-segment-run-capped-requires : (t : ℕ) → encode-segment-lts.Need-run-capped-requires (segment-claims t) (encode-segment-at t) encode-segment.Post encode-segment-Inv-loop encode-segment-μ-loop
-encode-segment-run-capped-requires t c κs = search needs
+encode-segment-short-run-part-requires : (t : ℕ) → encode-segment-lts.Need-short-run-part-requires (segment-claims t) (encode-segment-at t) encode-segment.Post encode-segment-Inv-loop encode-segment-μ-loop
+encode-segment-short-run-part-requires t c κs = search needs
 
 encode-segment-write-literal-requires-2 : (t : ℕ) → encode-segment-lts.Need-write-literal-requires-2 (segment-claims t) (encode-segment-at t) encode-segment.Post encode-segment-Inv-loop encode-segment-μ-loop
 encode-segment-write-literal-requires-2 t c κs = search needs
@@ -245,8 +245,8 @@ encode-segment-returns-2 t c =
     let l = c .before .before .before .before .before .before .before .before .before .loop in
     let a = c .before .before .before .before .before .before .before .before .before .before .before .before .args in
     let put = c .before .before .before .before .write-literal2 in
-    let capped = c .before .before .before .before .before .before .run-capped in
-    head-stop (l .inv .1) (literal (take (length (a .raw .now) - l .start) (drop (l .start) (a .raw .now))) (capped .result) ∷ []) (longRun (getD (a .raw .now) (length (a .raw .now) - 1) 0) (a .run - 15)) (put .last .1 .1 .0) (put .result) (c .enum-told2 .given .0 .0) (segment-last (a .raw .now) (a .run) (l .start) (capped .result) (l .inv .0) (omega arith) (capped .ensures)) (put .ensures) (c .enum-told2 .given .1)
+    let capped = c .before .before .before .before .before .before .short-run-part in
+    write-stop (l .inv .1) (literal (take (length (a .raw .now) - l .start) (drop (l .start) (a .raw .now))) (capped .result) ∷ []) (longRun (getD (a .raw .now) (length (a .raw .now) - 1) 0) (a .run - 15)) (put .last .1 .1 .0) (put .result) (c .enum-told2 .given .0 .0) (split-last (a .raw .now) (a .run) (l .start) (capped .result) (l .inv .0) (omega arith) (capped .ensures)) (put .ensures) (c .enum-told2 .given .1)
 
 encode-segment-same-length-3 : (t : ℕ) → encode-segment-lts.Need-same-length-3 (segment-claims t) (encode-segment-at t) encode-segment.Post encode-segment-Inv-loop encode-segment-μ-loop
 encode-segment-same-length-3 t c = search needs
@@ -256,10 +256,10 @@ encode-segment-returns-3 t c =
     let l = c .before .before .before .before .before .before .before .before .before .before .before .loop in
     let a = c .before .before .before .before .before .before .before .before .before .before .before .before .before .before .args in
     let put = c .before .before .before .before .before .before .write-literal2 in
-    let capped = c .before .before .before .before .before .before .before .before .run-capped in
-    let turn = head-turn (l .inv .1) (literal (take (length (a .raw .now) - l .start) (drop (l .start) (a .raw .now))) (capped .result) ∷ []) (longRun (getD (a .raw .now) (length (a .raw .now) - 1) 0) (a .run - 15))
-    (put .last .1 .1 .0) (put .result) (c .before .before .answer2 .given .0 .0) (segment-last (a .raw .now) (a .run) (l .start) (capped .result) (l .inv .0) (omega arith) (capped .ensures)) (put .ensures) (c .before .before .answer2 .given .1) in
-    head-done turn (longRun-none (getD (a .raw .now) (length (a .raw .now) - 1) 0) (a .run - 15) (omega arith))
+    let capped = c .before .before .before .before .before .before .before .before .short-run-part in
+    let turn = write-next (l .inv .1) (literal (take (length (a .raw .now) - l .start) (drop (l .start) (a .raw .now))) (capped .result) ∷ []) (longRun (getD (a .raw .now) (length (a .raw .now) - 1) 0) (a .run - 15))
+    (put .last .1 .1 .0) (put .result) (c .before .before .answer2 .given .0 .0) (split-last (a .raw .now) (a .run) (l .start) (capped .result) (l .inv .0) (omega arith) (capped .ensures)) (put .ensures) (c .before .before .answer2 .given .1) in
+    write-end turn (longRun-0 (getD (a .raw .now) (length (a .raw .now) - 1) 0) (a .run - 15) (omega arith))
 
 encode-segment-sub-encode-long-sequence : (t : ℕ) → encode-segment-lts.Need-sub-encode-long-sequence (segment-claims t) (encode-segment-at t) encode-segment.Post encode-segment-Inv-loop encode-segment-μ-loop
 encode-segment-sub-encode-long-sequence t c = search needs
@@ -275,9 +275,9 @@ encode-segment-encode-long-sequence-requires t c κs =
     let l = c .before .before .before .before .before .before .before .before .before .before .before .before .before .loop in
     let a = c .before .before .before .before .before .before .before .before .before .before .before .before .before .before .before .before .args in
     let put = c .before .before .before .before .before .before .before .before .write-literal2 in
-    let capped = c .before .before .before .before .before .before .before .before .before .before .run-capped in
-    let turn = head-turn (l .inv .1) (literal (take (length (a .raw .now) - l .start) (drop (l .start) (a .raw .now))) (capped .result) ∷ []) (longRun (getD (a .raw .now) (length (a .raw .now) - 1) 0) (a .run - 15))
-    (put .last .1 .1 .0) (put .result) (c .before .before .before .before .answer2 .given .0 .0) (segment-last (a .raw .now) (a .run) (l .start) (capped .result) (l .inv .0) (omega arith) (capped .ensures)) (put .ensures) (c .before .before .before .before .answer2 .given .1) in
+    let capped = c .before .before .before .before .before .before .before .before .before .before .short-run-part in
+    let turn = write-next (l .inv .1) (literal (take (length (a .raw .now) - l .start) (drop (l .start) (a .raw .now))) (capped .result) ∷ []) (longRun (getD (a .raw .now) (length (a .raw .now) - 1) 0) (a .run - 15))
+    (put .last .1 .1 .0) (put .result) (c .before .before .before .before .answer2 .given .0 .0) (split-last (a .raw .now) (a .run) (l .start) (capped .result) (l .inv .0) (omega arith) (capped .ensures)) (put .ensures) (c .before .before .before .before .answer2 .given .1) in
     (omega arith, turn .within)
 
 encode-segment-same-length-4 : (t : ℕ) → encode-segment-lts.Need-same-length-4 (segment-claims t) (encode-segment-at t) encode-segment.Post encode-segment-Inv-loop encode-segment-μ-loop
@@ -288,11 +288,11 @@ encode-segment-returns-4 t c =
     let l = c .before .before .before .before .before .before .before .before .before .before .before .before .before .before .before .before .loop in
     let a = c .before .before .before .before .before .before .before .before .before .before .before .before .before .before .before .before .before .before .before .args in
     let put = c .before .before .before .before .before .before .before .before .before .before .before .write-literal2 in
-    let capped = c .before .before .before .before .before .before .before .before .before .before .before .before .before .run-capped in
-    let turn = head-turn (l .inv .1) (literal (take (length (a .raw .now) - l .start) (drop (l .start) (a .raw .now))) (capped .result) ∷ []) (longRun (getD (a .raw .now) (length (a .raw .now) - 1) 0) (a .run - 15))
-    (put .last .1 .1 .0) (put .result) (c .before .before .before .before .before .before .before .answer2 .given .0 .0) (segment-last (a .raw .now) (a .run) (l .start) (capped .result) (l .inv .0) (omega arith) (capped .ensures)) (put .ensures) (c .before .before .before .before .before .before .before .answer2 .given .1) in
+    let capped = c .before .before .before .before .before .before .before .before .before .before .before .before .before .short-run-part in
+    let turn = write-next (l .inv .1) (literal (take (length (a .raw .now) - l .start) (drop (l .start) (a .raw .now))) (capped .result) ∷ []) (longRun (getD (a .raw .now) (length (a .raw .now) - 1) 0) (a .run - 15))
+    (put .last .1 .1 .0) (put .result) (c .before .before .before .before .before .before .before .answer2 .given .0 .0) (split-last (a .raw .now) (a .run) (l .start) (capped .result) (l .inv .0) (omega arith) (capped .ensures)) (put .ensures) (c .before .before .before .before .before .before .before .answer2 .given .1) in
     let call = c .before .before .encode-long-sequence in
-    head-last turn (call .last .1 .1 .0) (call .result) (call .ensures)
+    write-last turn (call .last .1 .1 .0) (call .result) (call .ensures)
 
 pub +encode-long-sequence+encode-segment-spec : {M : Type 1} → statement M
 +encode-long-sequence+encode-segment-spec =
@@ -302,7 +302,7 @@ pub +encode-long-sequence+encode-segment-spec : {M : Type 1} → statement M
     encode-long-sequence-Inv-loop
     encode-long-sequence-μ-loop
     (encode-long-sequence-loop-holds t)
-    (encode-long-sequence-next-part-requires t)
+    (encode-long-sequence-long-run-part-requires t)
     (encode-long-sequence-write-repeat-requires t)
     (encode-long-sequence-enum-known-answer t)
     (encode-long-sequence-enum-told t)
@@ -313,7 +313,7 @@ pub +encode-long-sequence+encode-segment-spec : {M : Type 1} → statement M
     (encode-long-sequence-loop-again t)
     (encode-long-sequence-same-length-2 t)
     (encode-long-sequence-returns-2 t)
-    (encode-long-sequence-raw-part-requires t)
+    (encode-long-sequence-raw-count-of-rest-requires t)
     (encode-long-sequence-sub-encode-segment t)
     (encode-long-sequence-part-encode-segment-start t)
     (encode-long-sequence-part-encode-segment-end t)
@@ -343,7 +343,7 @@ pub +encode-long-sequence+encode-segment-spec : {M : Type 1} → statement M
     (encode-segment-sub-write-literal-2 t)
     (encode-segment-part-write-literal-start-2 t)
     (encode-segment-part-write-literal-end-2 t)
-    (encode-segment-run-capped-requires t)
+    (encode-segment-short-run-part-requires t)
     (encode-segment-write-literal-requires-2 t)
     (encode-segment-enum-known-answer-2 t)
     (encode-segment-enum-told-2 t)

@@ -4,9 +4,9 @@ use Prim.Native.Nat.{_+_, _*_}
 use native.Mathlib.Omega.{arith}
 use lib.ListN.{length, set, length-set}
 use Rattle.rle_format.specs.Pack.{literal}
-use Rattle.rle_format.proofs.Writing.{control-short}
-use Rattle.rle_format.proofs.Head.{wrote-none, wrote-one}
-use Rattle.rle_format.proofs.Slice.{copied, tail-room, length-put-back, lent-over}
+use Rattle.rle_format.proofs.Writing.{controlByte-short}
+use Rattle.rle_format.proofs.WriteLoop.{wrote-refused, wrote-one}
+use Rattle.rle_format.proofs.Slice.{copied-overwrite, suffix-room, length-replaceSuffix, suffix-overwrite}
 use borrow.Author.Needs.{needs}
 use Rattle.rle_scanline_encoder.proofs.segment.write_literal.Statement.{statement}
 use Rattle.rle_scanline_encoder.proofs.segment.write_literal.Tie as tie
@@ -18,7 +18,7 @@ add-if1 : tie.Need-add-if1
 add-if1 c = search needs
 
 returns : tie.Need-returns
-returns c = let a = c .before .before .before .args in wrote-none (literal (a .raw .now) (a .run)) (a .dst .now) (a .at) (omega arith)
+returns c = let a = c .before .before .before .args in wrote-refused (literal (a .raw .now) (a .run)) (a .dst .now) (a .at) (omega arith)
 
 mul-dst : tie.Need-mul-dst
 mul-dst c = search needs
@@ -47,7 +47,7 @@ part-copy-end c = search needs
 copy-requires : tie.Need-copy-requires
 copy-requires c κs =
     let a = c .before .before .before .before .args in
-    tail-room (set (a .dst .now) (a .at) (16 * length (a .raw .now) + a .run)) (a .at + 1) (length (a .raw .now)) (simp length-set (omega arith))
+    suffix-room (set (a .dst .now) (a .at) (16 * length (a .raw .now) + a .run)) (a .at + 1) (length (a .raw .now)) (simp length-set (omega arith))
 
 add-t8 : tie.Need-add-t8
 add-t8 c = search needs
@@ -60,7 +60,7 @@ same-length c =
     let a = c .before .before .before .before .before .before .before .args in
     let k = c .before .before .copy in
     let control = 16 * length (a .raw .now) + a .run in
-    length-put-back (set (a .dst .now) (a .at) control) (k .last .1 .0) (a .at + 1) (k .kept .1 .0) ∙ length-set (a .dst .now) (a .at) control
+    length-replaceSuffix (set (a .dst .now) (a .at) control) (k .last .1 .0) (a .at + 1) (k .kept .1 .0) ∙ length-set (a .dst .now) (a .at) control
 
 returns-2 : tie.Need-returns-2
 returns-2 c =
@@ -69,8 +69,8 @@ returns-2 c =
     let control = 16 * length (a .raw .now) + a .run in
     let d = set (a .dst .now) (a .at) control in
     wrote-one (literal (a .raw .now) (a .run)) (a .dst .now) (a .at) _ control (a .at + 1 + length (a .raw .now))
-    (omega arith) (omega arith) (sym (control-short (a .raw .now) (a .run) (omega arith))) (omega arith)
-    (lent-over d (k .last .1 .0) (a .raw .now) (a .at + 1) (copied _ (a .raw .now) _ (k .ensures .1)))
+    (omega arith) (omega arith) (sym (controlByte-short (a .raw .now) (a .run) (omega arith))) (omega arith)
+    (suffix-overwrite d (k .last .1 .0) (a .raw .now) (a .at + 1) (copied-overwrite _ (a .raw .now) _ (k .ensures .1)))
 
 pub write-literal-spec : {M : Type 1} → statement M
 write-literal-spec =

@@ -4,9 +4,9 @@ use Prim.Native.Nat.{_+_, _*_, _/_, _%_}
 use native.Mathlib.Omega.{arith}
 use lib.ListN.{set}
 use Rattle.rle_format.specs.Pack.{repeat}
-use Rattle.rle_format.proofs.Slice.{putAt-none}
-use Rattle.rle_format.proofs.Writing.{control-long}
-use Rattle.rle_format.proofs.Head.{wrote-none, wrote-one}
+use Rattle.rle_format.proofs.Slice.{writeAt-nil}
+use Rattle.rle_format.proofs.Writing.{controlByte-long}
+use Rattle.rle_format.proofs.WriteLoop.{wrote-refused, wrote-one}
 use borrow.Author.Needs.{needs}
 use Rattle.rle_scanline_encoder.proofs.segment.write_repeat.Statement.{statement}
 use Rattle.rle_scanline_encoder.proofs.segment.write_repeat.Tie as tie
@@ -15,7 +15,7 @@ sub-if1 : tie.Need-sub-if1
 sub-if1 c = search needs
 
 returns : tie.Need-returns
-returns c = let a = c .before .args in wrote-none (repeat (a .run)) (a .dst .now) (a .at) (omega arith)
+returns c = let a = c .before .args in wrote-refused (repeat (a .run)) (a .dst .now) (a .at) (omega arith)
 
 mul-dst : tie.Need-mul-dst
 mul-dst c = search needs
@@ -40,7 +40,7 @@ returns-2 c =
     let a = c .before .args in
     let control = 16 * (a .run % 16) + a .run / 16 in
     wrote-one (repeat (a .run)) (a .dst .now) (a .at) (set (a .dst .now) (a .at) control) control (a .at + 1) (omega arith) (omega arith)
-    (sym (control-long (a .run) (omega arith) (omega arith))) (omega arith) (sym (putAt-none (set (a .dst .now) (a .at) control) (a .at + 1)))
+    (sym (controlByte-long (a .run) (omega arith) (omega arith))) (omega arith) (sym (writeAt-nil (set (a .dst .now) (a .at) control) (a .at + 1)))
 
 pub write-repeat-spec : {M : Type 1} → statement M
 write-repeat-spec =

@@ -108,7 +108,7 @@ fn of_plane(function: OfPlane, room: usize, source: impl Fn(&[u8], usize, usize)
     let of_first = |planes: &Planes, width, height| source(&planes.colours[0], width, height);
     most(function, no_plane, &cases(Form::argb(true, false), room, of_first), |function, case, dst| {
         let (source, len) = case.part(0, 1);
-        // SAFETY: both slices are lent for the call, with their lengths.
+        // SAFETY: both slices are passed for the call, with their lengths.
         unsafe { function(source, len, dst.as_mut_ptr(), dst.len(), case.width, case.height) };
     })
 }
@@ -130,7 +130,7 @@ fn of_decode() -> usize {
         let (image, work) = room.split_at_mut(case.room / 2);
         let (image, image_len, work, work_len) = (image.as_mut_ptr(), image.len(), work.as_mut_ptr(), work.len());
         let (width, height) = (case.width, case.height);
-        // SAFETY: all slices are lent for the call, with their lengths.
+        // SAFETY: all slices are passed for the call, with their lengths.
         unsafe {
             function(
                 rle, alpha, definition, level, subsampled, body, body_len, work, work_len, image, image_len, width,
@@ -154,7 +154,7 @@ fn of_pixels(function: OfPixels, alpha: bool) -> usize {
     most(function, no_pixels, &cases, |function, case, dst| {
         let (source, len) = case.part(0, 1);
         let (at, room, rle) = (dst.as_mut_ptr(), dst.len(), case.form.rle);
-        // SAFETY: both slices are lent for the call, with their lengths.
+        // SAFETY: both slices are passed for the call, with their lengths.
         unsafe { function(source, len, at, room, rle, case.width, case.height) };
     })
 }
@@ -169,7 +169,7 @@ fn of_three() -> usize {
     most(function, no_three, &channel_cases(false), |function, case, dst| {
         let [(r, r_len), (g, g_len), (b, b_len)] = [0, 1, 2].map(|at| case.part(at, 3));
         let (at, room, rle) = (dst.as_mut_ptr(), dst.len(), case.form.rle);
-        // SAFETY: all slices are lent for the call, with their lengths.
+        // SAFETY: all slices are passed for the call, with their lengths.
         unsafe { function(r, r_len, g, g_len, b, b_len, at, room, rle, case.width, case.height) };
     })
 }
@@ -179,7 +179,7 @@ fn of_four() -> usize {
     most(function, no_four, &channel_cases(true), |function, case, dst| {
         let [(r, r_len), (g, g_len), (b, b_len), (a, a_len)] = [0, 1, 2, 3].map(|at| case.part(at, 4));
         let (at, room, rle) = (dst.as_mut_ptr(), dst.len(), case.form.rle);
-        // SAFETY: all slices are lent for the call, with their lengths.
+        // SAFETY: all slices are passed for the call, with their lengths.
         unsafe { function(r, r_len, g, g_len, b, b_len, a, a_len, at, room, rle, case.width, case.height) };
     })
 }
@@ -187,7 +187,7 @@ fn of_four() -> usize {
 fn of_work_size() -> usize {
     let call = |form: Form| {
         let Form { rle, definition, subsampled, .. } = form;
-        // SAFETY: nothing is lent.
+        // SAFETY: no pointer is passed.
         let mut call = |size: WorkSize| _ = unsafe { size(rle, definition, subsampled, 8192, 8191) };
         taken(ours::rdp6_work_size as WorkSize, no_work_size, &mut call)
     };
@@ -195,7 +195,7 @@ fn of_work_size() -> usize {
 }
 
 fn of_image_size() -> usize {
-    // SAFETY: nothing is lent.
+    // SAFETY: no pointer is passed.
     let mut call = |size: ImageSize| _ = unsafe { size(8192, 8191) };
     taken(ours::rdp6_image_size as ImageSize, no_image_size, &mut call)
 }

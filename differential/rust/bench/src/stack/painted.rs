@@ -52,7 +52,7 @@ fn run_on(stack: &mut [u8], work: &mut dyn FnMut()) {
     // SAFETY: only the lifetime changes; `run` takes it before this function comes back.
     WORK.set(Some(unsafe { std::mem::transmute::<*mut (dyn FnMut() + '_), Work>(work) }));
     let (mut here, mut there) = (Context::empty(), Context::empty());
-    // SAFETY: the contexts have room for what the C library keeps in them; the stack is lent for as long as it is used; `run`
+    // SAFETY: the contexts have room for what the C library keeps in them; the stack is passed for as long as it is used; `run`
     // comes back to `here` by the link.
     unsafe {
         assert_eq!(getcontext(addr_of_mut!(there)), 0, "getcontext");

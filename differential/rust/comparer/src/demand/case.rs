@@ -1,4 +1,4 @@
-//! One case of demand 3.
+//! One case of the prefix theorem (demand 3).
 
 use crate::bytes;
 use crate::case::MAX_SIDE;

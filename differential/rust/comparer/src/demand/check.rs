@@ -1,4 +1,4 @@
-//! Holds both pairs, the Rust's and the library's, to the model.
+//! Compares both pairs, IronRDP's and the library's, with the model.
 
 use crate::case::Case;
 use crate::check::{answer_text, Comparer, Difference, Outcome};
@@ -79,7 +79,7 @@ impl Comparer {
         self.hold_both(case, wanted, || plane.case(cut))
     }
 
-    /// Holds a call of the Rust, then of the library, to the answer and to `wanted_after`.
+    /// Compares a call of IronRDP, then of the library, with the answer and with `wanted_after`.
     fn hold_both(&mut self, case: Case<'_>, wanted: Answer, input: impl Fn() -> Input) -> Outcome {
         self.got_after.clear();
         self.got_after.extend_from_slice(case.before);

@@ -1,4 +1,4 @@
-//! The part that is the same in every run: all small planes at every cut, telling rows, long sides.
+//! The part that is the same in every run: all small planes at every cut, boundary rows, long sides.
 
 use crate::case::MAX_SIDE;
 use crate::check::{Comparer, Outcome};

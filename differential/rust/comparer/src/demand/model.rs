@@ -116,7 +116,7 @@ impl Model {
         whole.checked_sub(1).map_or(0, |last| self.ends[last].values)
     }
 
-    /// What demand 3 wants in a destination that is unpacked to from the first `taken` bytes: the samples of the rows that
+    /// What the prefix theorem (demand 3) wants in a destination that is unpacked to from the first `taken` bytes: the samples of the rows that
     /// these hold, the coded values of the next row's whole segments, and the rest as it was. No segment passes a row's end.
     pub fn fill(&self, samples: &[u8], width: usize, taken: usize, destination: &mut [u8]) {
         let values = self.values_within(taken);

@@ -164,7 +164,7 @@ impl Encoding<&[u8]> {
         Encoding { sources: self.sources.map(|slice, stride| &slice[..samples * stride]), ..self }
     }
 
-    /// What the Rust answers. `after` is its destination, which begins with a byte for the header.
+    /// What IronRDP answers. `after` is its destination, which begins with a byte for the header.
     pub fn by_rust(&self, after: &mut [u8]) -> Encoded {
         let Encoding { width, height, rle, .. } = *self;
         match self.sources {

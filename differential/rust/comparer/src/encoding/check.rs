@@ -52,7 +52,7 @@ pub struct Encoders {
     pub bitmap_alpha: EncodeBitmap,
 }
 
-/// What the destination must hold after a call, behind the byte of the Rust's header, and what it holds.
+/// What the destination must hold after a call, behind the byte of IronRDP's header, and what it holds.
 #[derive(Default)]
 pub(crate) struct Packed {
     wanted: Vec<u8>,
@@ -108,7 +108,7 @@ impl Comparer {
     }
 
     /// What must be answered; `packed.wanted` gets what the destination must hold. Where there are samples too many document 01
-    /// says which are used, and the Rust what they make. The Rust itself is held to the record that document 01 has sent.
+    /// says which are used, and IronRDP what they make. IronRDP itself is compared with the record that document 01 has sent.
     pub(crate) fn ask_encoding(&mut self, case: Encoding<&[u8]>) -> Result<Answer, Box<Difference>> {
         let wanted = &mut self.packed.wanted;
         wanted.clear();
@@ -184,7 +184,7 @@ impl Comparer {
             Loan::written("destination", before, &mut self.packed.got),
         ];
         let lens = [r, g, b].map(<[u8]>::len);
-        // SAFETY: all are lent for this call. That it keeps to them is what is tested.
+        // SAFETY: all are passed for this call. That it keeps to them is what is tested.
         self.lender.call(View::Encoding(case), side, loans, |[r, g, b, dst]| unsafe {
             encode(r, lens[0], g, lens[1], b, lens[2], dst, before.len(), rle, width, height)
         })
@@ -207,7 +207,7 @@ impl Comparer {
             Loan::written("destination", before, &mut self.packed.got),
         ];
         let lens = [r, g, b, a].map(<[u8]>::len);
-        // SAFETY: all are lent for this call. That it keeps to them is what is tested.
+        // SAFETY: all are passed for this call. That it keeps to them is what is tested.
         self.lender.call(View::Encoding(case), side, loans, |[r, g, b, a, dst]| unsafe {
             encode(r, lens[0], g, lens[1], b, lens[2], a, lens[3], dst, before.len(), rle, width, height)
         })
@@ -219,7 +219,7 @@ impl Comparer {
         let encode = if alpha { encoders.bitmap_alpha } else { encoders.bitmap };
         let loans = [Loan::read("pixels", pixels), Loan::written("destination", before, &mut self.packed.got)];
         let len = pixels.len();
-        // SAFETY: both are lent for this call. That it keeps to them is what is tested.
+        // SAFETY: both are passed for this call. That it keeps to them is what is tested.
         self.lender.call(View::Encoding(case), side, loans, |[pixels, dst]| unsafe {
             encode(pixels, len, dst, before.len(), rle, width, height)
         })

@@ -72,7 +72,7 @@ mod tests {
     use crate::bytes;
     use crate::encoding::OwnedEncoding;
 
-    /// The judges say what is written here: the Rust inside the domain, document 01's order and its first samples outside.
+    /// The expected results are written here: IronRDP inside the domain, document 01's order and its first samples outside.
     #[test]
     fn examples_are_judged_so() {
         for (text, answer, after) in EXAMPLES {

@@ -122,7 +122,7 @@ fn long_sides(comparer: &mut Comparer, earlier: &mut Earlier) -> Outcome {
     Ok(())
 }
 
-/// The largest picture that there is, raw, from pixels: with just the room that it needs, and with one byte less. It is lent at
+/// The largest picture that there is, raw, from pixels: with just the room that it needs, and with one byte less. It is passed at
 /// one side of its pages each time.
 fn largest(comparer: &mut Comparer) -> Outcome {
     let (width, height) = (MAX_SIDE, MAX_SIDE);

@@ -44,7 +44,7 @@ pub fn given(rle: bool, (width, height): (usize, usize), sources: Sources<&[u8]>
 }
 
 impl Encoding<&[u8]> {
-    /// What the Rust makes of the first width times height samples if there is room. Nothing is refused at entry.
+    /// What IronRDP makes of the first width times height samples if there is room. Nothing is refused at entry.
     pub fn packing(self) -> Vec<u8> {
         let mut after = vec![0; 2 + self.sources.planes() * longest_packing(self.width, self.height)];
         let encoded = self.with_first_samples().by_rust(&mut after);

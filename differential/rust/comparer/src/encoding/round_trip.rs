@@ -1,4 +1,4 @@
-//! What was packed is unpacked by the Rust: R, G and B by its picture decoder, A as the plane that comes first.
+//! What was packed is unpacked by IronRDP: R, G and B by its picture decoder, A as the plane that comes first.
 
 use crate::encoding::{Channel, Encoding};
 use original::{Answer, Definition, Header};

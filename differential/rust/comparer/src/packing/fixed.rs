@@ -1,4 +1,4 @@
-//! The part that is the same in every run: all small planes, telling rows, all destination lengths, the refused sides.
+//! The part that is the same in every run: all small planes, boundary rows, all destination lengths, the refused sides.
 
 use crate::case::{Case, MAX_SIDE, TELLING_SIDES};
 use crate::check::{Comparer, Outcome};
@@ -119,7 +119,7 @@ fn long_sides(comparer: &mut Comparer, earlier: &mut Earlier) -> Outcome {
     in_all_rooms(comparer, earlier, Kind::LongSides, (3, MAX_SIDE), &samples)
 }
 
-/// The largest plane that there is: with just the room that it needs, and with one byte less. It is lent at one side of its
+/// The largest plane that there is: with just the room that it needs, and with one byte less. It is passed at one side of its
 /// pages each time.
 fn largest_plane(comparer: &mut Comparer, earlier: &mut Earlier) -> Outcome {
     let (width, height) = (MAX_SIDE, MAX_SIDE);

@@ -76,7 +76,7 @@ impl Form {
         (alpha + 1) * least_plane((width, height)) + 2 * least_plane(self.chroma_sides(width, height))
     }
 
-    /// The same in the Rust's words, which have no other definition.
+    /// The same in IronRDP's words, which have no other definition.
     pub fn header(&self) -> Option<Header> {
         let definition = match self.definition {
             ARGB => Definition::Argb,
@@ -146,7 +146,7 @@ pub struct OwnedPicture {
 
 impl Picture<'_> {
     /// Document 01's refusal outside its domain, in its order: 1, 2, 3, and if the work area or the image is short, 4 of the
-    /// body, then 5 or 6. `None` is inside the domain: the Rust is asked, for 4 too.
+    /// body, then 5 or 6. `None` is inside the domain: IronRDP is asked, for 4 too.
     pub fn refused_outside(&self) -> Option<u8> {
         let (width, height, form) = (self.width, self.height, self.form);
         if width == 0 || height == 0 {
@@ -168,7 +168,7 @@ impl Picture<'_> {
         }
     }
 
-    /// What the Rust answers, if it has this form. `work` is its work area, which it may make longer or shorter; what it makes
+    /// What IronRDP answers, if it has this form. `work` is its work area, which it may make longer or shorter; what it makes
     /// is appended to `image`.
     pub fn by_rust(&self, work: &mut Vec<u8>, image: &mut Vec<u8>) -> Option<Answer> {
         let header = self.form.header()?;

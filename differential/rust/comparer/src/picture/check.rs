@@ -58,7 +58,7 @@ impl Written {
 pub(crate) struct Afters {
     wanted: Written,
     got: Written,
-    /// The image that the Rust makes.
+    /// The image that IronRDP makes.
     made: Vec<u8>,
 }
 
@@ -68,7 +68,7 @@ impl Afters {
         self.wanted.after()
     }
 
-    /// Asks the Rust. It gets the whole work area and may give back a shorter one, behind which nothing has changed; its image
+    /// Asks IronRDP. It gets the whole work area and may give back a shorter one, behind which nothing has changed; its image
     /// is what it appends, and the rest of ours is as it was.
     fn ask_rust(&mut self, case: Picture<'_>) -> Answer {
         self.made.clear();
@@ -156,7 +156,7 @@ impl Comparer {
             Loan::written("image", image, &mut self.afters.got.image),
         ];
         let [body_len, work_len, image_len] = [body.len(), work.len(), image.len()];
-        // SAFETY: all three are lent for this call. That it keeps to them is what is tested.
+        // SAFETY: all three are passed for this call. That it keeps to them is what is tested.
         self.lender.call(View::Picture(case), side, loans, |[body, work, image]| unsafe {
             decode(
                 form.rle,
@@ -185,7 +185,7 @@ impl Comparer {
     pub(crate) fn look_at_sizes(&mut self, case: &Sizes) -> Outcome {
         let Pictures { work_size, image_size, .. } = self.library.pictures;
         let Sizes { width, height, rle, definition, subsampled } = *case;
-        // SAFETY: nothing is lent.
+        // SAFETY: no pointer is passed.
         let (work, image) =
             unsafe { (work_size(rle, definition, subsampled, width, height), image_size(width, height)) };
         let of_work = ("the size of the work area", case.work(), work);

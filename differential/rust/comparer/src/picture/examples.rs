@@ -63,7 +63,7 @@ mod tests {
     use crate::bytes;
     use crate::picture::OwnedPicture;
 
-    /// The judges say what is written here: the Rust inside the domain, document 01's order outside.
+    /// The expected results are written here: IronRDP inside the domain, document 01's order outside.
     #[test]
     fn examples_are_judged_so() {
         for (text, answer, image) in EXAMPLES {

@@ -38,7 +38,7 @@ impl Planes {
         self.bodies(form, width, height).concat()
     }
 
-    /// The part of the body that each plane makes, packed by the Rust if it is RLE.
+    /// The part of the body that each plane makes, packed by IronRDP if it is RLE.
     pub fn bodies(&self, form: Form, width: usize, height: usize) -> Vec<Vec<u8>> {
         let packed = |(plane, (width, height)): (&[u8], (usize, usize))| match form.rle {
             true => original::pack(plane, width, height).expect("a whole plane with room"),

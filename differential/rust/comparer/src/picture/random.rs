@@ -56,7 +56,7 @@ impl Random {
         self.befores.compare_longer(comparer, kind, sent, more)
     }
 
-    /// A picture that the Rust packs: whole, with bytes following, cut, damaged, in slices of other lengths.
+    /// A picture that IronRDP packs: whole, with bytes following, cut, damaged, in slices of other lengths.
     fn picture(&mut self, comparer: &mut Comparer) -> Outcome {
         let (width, height) = planes::sides(&mut self.rng);
         let form = self.form();

@@ -42,7 +42,7 @@ fn table_of_sides(comparer: &mut Comparer, befores: &mut Befores) -> Outcome {
     Ok(())
 }
 
-/// The body as it is, one byte short of its least size, empty, and with a first control byte of 0; each in slices that are
+/// The body as it is, one byte short of its minimum size, empty, and with a first control byte of 0; each in slices that are
 /// long enough and that are not.
 fn with_faults(comparer: &mut Comparer, befores: &mut Befores, kind: Kind, sent: Sent<'_>) -> Outcome {
     let damaged = [&[0], &sent.body[1..]].concat();

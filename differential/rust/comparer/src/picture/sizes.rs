@@ -1,4 +1,4 @@
-//! How long the work area and the image must be: two functions of a library, held to plain formulas.
+//! How long the work area and the image must be: two functions of a library, compared with plain formulas.
 
 use crate::case::{MAX_SIDE, TELLING_SIDES};
 use crate::check::{Comparer, Outcome};
@@ -69,7 +69,7 @@ impl fmt::Display for Sizes {
 /// Sides inside the domain, odd and even.
 const MORE_SIDES: [usize; 13] = [4, 5, 6, 7, 8, 9, 47, 48, 100, 4095, 4096, 4097, MAX_SIDE - 2];
 
-/// All pairs of telling sides, all definitions that matter.
+/// All pairs of boundary sides, all definitions that matter.
 pub fn run(comparer: &mut Comparer) -> Outcome {
     let sides = || TELLING_SIDES.into_iter().chain(MORE_SIDES);
     for (width, height) in sides().flat_map(|width| sides().map(move |height| (width, height))) {

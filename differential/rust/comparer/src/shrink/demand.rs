@@ -1,4 +1,4 @@
-//! Smaller cases of demand 3.
+//! Smaller cases of the prefix theorem (demand 3).
 
 use super::plane::smaller_planes;
 use super::{lower, lower_bytes, plain};

@@ -53,7 +53,7 @@ impl Random {
         comparer.compare(kind, Case::unpack(width, height, body, self.earlier.bytes(room)))
     }
 
-    /// A plane that the Rust packs: whole, with bytes following, cut, damaged.
+    /// A plane that IronRDP packs: whole, with bytes following, cut, damaged.
     fn packed(&mut self, comparer: &mut Comparer) -> Outcome {
         let (width, height) = planes::sides(&mut self.rng);
         let sides = (width, height);

@@ -1,5 +1,5 @@
 //! A picture decoder in small steps, written from document 01. A wrong one does one of them otherwise. The planes of an RLE
-//! picture it leaves to the Rust: wrong unpackers of planes are looked for elsewhere.
+//! picture it leaves to IronRDP: wrong unpackers of planes are looked for elsewhere.
 
 use comparer::case::MAX_SIDE;
 use comparer::picture::case::{ARGB, AYCOCG};
@@ -314,7 +314,7 @@ pub trait Decoder {
     }
 }
 
-/// What the Rust makes of a plane: the bytes read, or the number of the refusal. A panic, to which a mistake may lead, is no
+/// What IronRDP makes of a plane: the bytes read, or the number of the refusal. A panic, to which a mistake may lead, is no
 /// number that there is.
 pub fn unpacked(body: &[u8], plane: &mut [u8], (width, height): (usize, usize)) -> Result<usize, i64> {
     let answer = original::unpack(body, plane, width, height).number().unwrap_or(-99);

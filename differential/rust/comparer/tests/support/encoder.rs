@@ -1,12 +1,12 @@
 //! A picture encoder in small steps, written from document 01. A wrong one does one of them otherwise. The planes of an RLE picture
-//! it leaves to the Rust: wrong packers of planes are looked for elsewhere.
+//! it leaves to IronRDP: wrong packers of planes are looked for elsewhere.
 
 use super::decoder::Lent;
 use comparer::case::MAX_SIDE;
 use comparer::encoding::check::Encoders;
 use comparer::encoding::Channel;
 
-/// What is lent to be packed.
+/// What is passed to be packed.
 pub enum Given {
     /// R, G, B, and A if there is one.
     Channels(Vec<Lent>),
@@ -204,7 +204,7 @@ pub trait Encoder {
     }
 }
 
-/// What the Rust makes of a plane: the bytes written, or the number of the refusal. A panic, to which a mistake may lead, is no
+/// What IronRDP makes of a plane: the bytes written, or the number of the refusal. A panic, to which a mistake may lead, is no
 /// number that there is.
 pub fn packed(plane: &[u8], dst: &mut [u8], (width, height): (usize, usize)) -> Result<usize, i64> {
     let answer = original::compress(plane, dst, width, height).number().unwrap_or(-99);

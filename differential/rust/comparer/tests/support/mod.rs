@@ -69,7 +69,7 @@ pub unsafe extern "C" fn exported<C: Call>(
     C::call(Slices { src, src_len, dst, dst_len }, width, height)
 }
 
-/// What document 01 and the Rust do with a case.
+/// What document 01 and IronRDP do with a case.
 fn done_right(case: Case<'_>, after: &mut [u8]) -> i64 {
     match case.refused_at_entry() {
         Some(number) => -i64::from(number),
@@ -146,7 +146,7 @@ impl Search {
         (0..self.alone).find_map(|_| round(&mut comparer).err())
     }
 
-    /// The mistake is found, both ways, in the library and not in the Rust, and its smallest input is as small as this one.
+    /// The mistake is found, both ways, in the library and not in IronRDP, and its smallest input is as small as this one.
     pub fn finds(&self, library: Library, smallest: &str) {
         let difference = self.difference_in(library).expect("a mistake is found");
         assert_eq!(difference.case.to_string(), smallest, "{difference}");
