@@ -30,9 +30,9 @@ pub(crate) fn encode_three(
     ensures answer { λ p. ⌜ packedToAnswer p ≡ packPicture rle width height (length (now (dst .entry))) (threeChannels layout (now (r .entry)) (now (g .entry)) (now (b .entry))) .answer ⌝ }
     ensures slice { λ _. ⌜ now (dst .exit) ≡ overwrite (now (dst .entry)) (packPicture rle width height (length (now (dst .entry))) (threeChannels layout (now (r .entry)) (now (g .entry)) (now (b .entry))) .written) ⌝ }
 {
-    let tested = check_colors(r, g, b, layout, width, height);
-    let Packed::Written(n) = tested else {
-        return tested;
+    let checked = check_colors(r, g, b, layout, width, height);
+    let Packed::Written(n) = checked else {
+        return checked;
     };
     if rle {
         return compress_colors(r, g, b, layout, dst, 0, width, height);
@@ -59,9 +59,9 @@ pub(crate) fn encode_four(
     ensures answer { λ p. ⌜ packedToAnswer p ≡ packPicture rle width height (length (now (dst .entry))) (fourChannels layout (now (r .entry)) (now (g .entry)) (now (b .entry)) (now (a .entry))) .answer ⌝ }
     ensures slice { λ _. ⌜ now (dst .exit) ≡ overwrite (now (dst .entry)) (packPicture rle width height (length (now (dst .entry))) (fourChannels layout (now (r .entry)) (now (g .entry)) (now (b .entry)) (now (a .entry))) .written) ⌝ }
 {
-    let tested = check_sources(r, g, b, a, layout, width, height);
-    let Packed::Written(n) = tested else {
-        return tested;
+    let checked = check_sources(r, g, b, a, layout, width, height);
+    let Packed::Written(n) = checked else {
+        return checked;
     };
     if rle {
         let alpha = compress_next_plane(a, layout, Channel::A, dst, 0, width, height);

@@ -32,17 +32,17 @@ fn check_sides(width: usize, height: usize) -> Packed
     Packed::Written(width * height)
 }
 
-// Checks one more source; `tested` is the answer of the checks before. The order of the sources does not matter, since all are refused with 11.
-fn check_source(tested: Packed, src: &[u8], layout: Layout) -> Packed
-    ensures { λ p. ⌜ ((w h : ℕ) (planes : List (List ℕ)) (c : Channel) → packedToAnswer tested ≡ checkPack w h planes → packedToAnswer p ≡ checkPack w h (samplesOf layout c (now (src .entry)) ∷ planes)) ⌝ }
+// Checks one more source; `checked` is the answer of the checks before. The order of the sources does not matter, since all are refused with 11.
+fn check_source(checked: Packed, src: &[u8], layout: Layout) -> Packed
+    ensures { λ p. ⌜ ((w h : ℕ) (planes : List (List ℕ)) (c : Channel) → packedToAnswer checked ≡ checkPack w h planes → packedToAnswer p ≡ checkPack w h (samplesOf layout c (now (src .entry)) ∷ planes)) ⌝ }
 {
-    let Packed::Written(n) = tested else {
-        return tested;
+    let Packed::Written(n) = checked else {
+        return checked;
     };
     if sample_count(src, layout) < n {
         return Packed::Refused(Refusal::NotEnoughBytes);
     }
-    tested
+    checked
 }
 
 // The checks of a picture of three planes.

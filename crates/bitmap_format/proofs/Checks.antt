@@ -13,12 +13,12 @@ use Rattle.bitmap_format.specs.Checks.{Check, firstRefusal}
 
 -- ---- a check that refuses, and one that passes
 
-module _ (t : Check) (tests : List Check) (passed : Answer) where
-  pub check-refuses : t .given ≡ true → firstRefusal (t ∷ tests) passed ≡ refused (t .number)
+module _ (t : Check) (checks : List Check) (passed : Answer) where
+  pub check-refuses : t .given ≡ true → firstRefusal (t ∷ checks) passed ≡ refused (t .number)
   unfolding firstRefusal
-  check-refuses e = ap (λ (given : Bool). choose given (refused (t .number)) (firstRefusal tests passed)) e
+  check-refuses e = ap (λ (given : Bool). choose given (refused (t .number)) (firstRefusal checks passed)) e
 
-  pub check-passes : t .given ≡ false → firstRefusal (t ∷ tests) passed ≡ firstRefusal tests passed
+  pub check-passes : t .given ≡ false → firstRefusal (t ∷ checks) passed ≡ firstRefusal checks passed
   unfolding firstRefusal
   check-passes e = rw e
 
@@ -38,10 +38,10 @@ sides-passed w h n answer e = go (eqb w 0 || eqb h 0) (ltb 8192 w || ltb 8192 h)
     go false true es et e = refused-not-counted e
     go false false es et e = (rw (es, et) refl, e)
 
-pub check-passed : (t : Check) (tests : List Check) (answer : Answer) (n : ℕ) → firstRefusal (t ∷ tests) answer ≡ counted n → (t .given ≡ false) × (firstRefusal tests answer ≡ counted n)
+pub check-passed : (t : Check) (checks : List Check) (answer : Answer) (n : ℕ) → firstRefusal (t ∷ checks) answer ≡ counted n → (t .given ≡ false) × (firstRefusal checks answer ≡ counted n)
 unfolding firstRefusal
-check-passed t tests answer n e = go (t .given) refl e
+check-passed t checks answer n e = go (t .given) refl e
   where
-    go : (b : Bool) → t .given ≡ b → choose b (refused (t .number)) (firstRefusal tests answer) ≡ counted n → (t .given ≡ false) × (firstRefusal tests answer ≡ counted n)
+    go : (b : Bool) → t .given ≡ b → choose b (refused (t .number)) (firstRefusal checks answer) ≡ counted n → (t .given ≡ false) × (firstRefusal checks answer ≡ counted n)
     go true eb e = refused-not-counted e
     go false eb e = (eb, e)

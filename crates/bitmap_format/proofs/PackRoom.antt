@@ -20,7 +20,7 @@ use Rattle.bitmap_format.proofs.PackPicture.{packPicture-refused, packP
 
 pub packPicture-within : (rle : Bool) (w h room : ℕ) (planes : List (List ℕ)) (n : ℕ) → packPicture rle w h room planes .answer ≡ counted n → n ≤ room
 unfolding stop
-packPicture-within rle w h room planes n e = by-tests (checkPack w h planes) refl
+packPicture-within rle w h room planes n e = by-checks (checkPack w h planes) refl
   where
     raw : (m : ℕ) → checkPack w h planes ≡ counted m → rle ≡ false → n ≤ room
     raw m et eb =
@@ -36,9 +36,9 @@ packPicture-within rle w h room planes n e = by-tests (checkPack w h planes) ref
     body m et true eb = write-count-within (pictureSegments w h planes) room n (sym e ∙ answer-cong (packPicture-rle rle w h room m planes et eb))
     body m et false eb = raw m et eb
 
-    by-tests : (a : Answer) → checkPack w h planes ≡ a → n ≤ room
-    by-tests (refused r) et = refused-not-counted (sym (answer-cong (packPicture-refused w h planes rle room r et)) ∙ e)
-    by-tests (counted m) et = body m et rle refl
+    by-checks : (a : Answer) → checkPack w h planes ≡ a → n ≤ room
+    by-checks (refused r) et = refused-not-counted (sym (answer-cong (packPicture-refused w h planes rle room r et)) ∙ e)
+    by-checks (counted m) et = body m et rle refl
 
 -- an RLE body has at most two bytes a sample
 pictureSegments-max : (w h : ℕ) (planes : List (List ℕ)) → length (segmentsBytes (pictureSegments w h planes)) ≤ length planes * (2 * (w * h))

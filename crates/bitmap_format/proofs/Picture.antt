@@ -45,7 +45,7 @@ module _ (header : BitmapStreamHeader) (w h : ℕ) (body work image : List ℕ) 
 pub image-untouched : (header : BitmapStreamHeader) (w h : ℕ) (body work image : List ℕ) (r : ℕ) → unpackPicture header w h body work image .answer ≡ refused r
     → unpackPicture header w h body work image .image ≡ image
 unfolding unpackRle unpackRaw writeImage imageFromWork
-image-untouched header w h body work image r e = by-tests (checkPicture header w h (length body) (length work) (length image)) refl
+image-untouched header w h body work image r e = by-checks (checkPicture header w h (length body) (length work) (length image)) refl
   where
     planes : (work : List ℕ) (a : Answer) → imageFromWork header w h work image a .answer ≡ refused r → imageFromWork header w h work image a .image ≡ image
     planes work (counted n) e = refused-not-counted (sym e)
@@ -59,18 +59,18 @@ image-untouched header w h body work image r e = by-tests (checkPicture header w
         ap (λ (p : PictureOutcome). p .image) p ∙ planes (u .work) (u .answer) (sym (ap (λ (p : PictureOutcome). p .answer) p) ∙ e)
     read n et false eb = refused-not-counted (sym e ∙ ap (λ (p : PictureOutcome). p .answer) (unpackPicture-raw header w h body work image n et eb))
 
-    by-tests : (a : Answer) → checkPicture header w h (length body) (length work) (length image) ≡ a → unpackPicture header w h body work image .image ≡ image
-    by-tests (refused q) et = ap (λ (p : PictureOutcome). p .image) (unpackPicture-refused header w h body work image q et)
-    by-tests (counted n) et = read n et (header .«enable_rle_compression») refl
+    by-checks : (a : Answer) → checkPicture header w h (length body) (length work) (length image) ≡ a → unpackPicture header w h body work image .image ≡ image
+    by-checks (refused q) et = ap (λ (p : PictureOutcome). p .image) (unpackPicture-refused header w h body work image q et)
+    by-checks (counted n) et = read n et (header .«enable_rle_compression») refl
 
 -- a raw picture does not change the work area (FORMAT 2.5)
 pub work-untouched : (header : BitmapStreamHeader) (w h : ℕ) (body work image : List ℕ) → header .«enable_rle_compression» ≡ false → unpackPicture header w h body work image .work ≡ work
 unfolding unpackRaw writeImage
-work-untouched header w h body work image eb = by-tests (checkPicture header w h (length body) (length work) (length image)) refl
+work-untouched header w h body work image eb = by-checks (checkPicture header w h (length body) (length work) (length image)) refl
   where
-    by-tests : (a : Answer) → checkPicture header w h (length body) (length work) (length image) ≡ a → unpackPicture header w h body work image .work ≡ work
-    by-tests (refused q) et = ap (λ (p : PictureOutcome). p .work) (unpackPicture-refused header w h body work image q et)
-    by-tests (counted n) et = ap (λ (p : PictureOutcome). p .work) (unpackPicture-raw header w h body work image n et eb)
+    by-checks : (a : Answer) → checkPicture header w h (length body) (length work) (length image) ≡ a → unpackPicture header w h body work image .work ≡ work
+    by-checks (refused q) et = ap (λ (p : PictureOutcome). p .work) (unpackPicture-refused header w h body work image q et)
+    by-checks (counted n) et = ap (λ (p : PictureOutcome). p .work) (unpackPicture-raw header w h body work image n et eb)
 
 -- ---- how many bytes are written
 
@@ -82,7 +82,7 @@ imageFromWork-count header w h n work image (refused r) e = refused-not-counted 
 -- a picture that was written has no more than 3 × 8,192 × 8,192 bytes
 pub image-count-max : (header : BitmapStreamHeader) (w h : ℕ) (body work image : List ℕ) (n : ℕ) → unpackPicture header w h body work image .answer ≡ counted n → n ≤ 201326592
 unfolding unpackRle unpackRaw writeImage
-image-count-max header w h body work image n e = by-tests (checkPicture header w h (length body) (length work) (length image)) refl
+image-count-max header w h body work image n e = by-checks (checkPicture header w h (length body) (length work) (length image)) refl
   where
     size : (m : ℕ) → checkPicture header w h (length body) (length work) (length image) ≡ counted m → n ≡ imageSize w h → n ≤ 201326592
     size m et en =
@@ -98,9 +98,9 @@ image-count-max header w h body work image n e = by-tests (checkPicture header w
         let en : n ≡ imageSize w h = cc in
         size m et en
 
-    by-tests : (a : Answer) → checkPicture header w h (length body) (length work) (length image) ≡ a → n ≤ 201326592
-    by-tests (refused r) et = refused-not-counted (sym (sym e ∙ ap (λ (p : PictureOutcome). p .answer) (unpackPicture-refused header w h body work image r et)))
-    by-tests (counted m) et = read m et (header .«enable_rle_compression») refl
+    by-checks : (a : Answer) → checkPicture header w h (length body) (length work) (length image) ≡ a → n ≤ 201326592
+    by-checks (refused r) et = refused-not-counted (sym (sym e ∙ ap (λ (p : PictureOutcome). p .answer) (unpackPicture-refused header w h body work image r et)))
+    by-checks (counted m) et = read m et (header .«enable_rle_compression») refl
 
 -- ---- the sizes that were checked, by the kind of picture
 

@@ -40,25 +40,25 @@ module _ (header : BitmapStreamHeader) (w h body work image : ℕ) where
     loss-passed = check-passes _ checksFromBody passedAnswer hl
 
     -- the minimum sizes, as the code has computed them
-    module _ (least-body : ℕ) (eb : least-body ≡ minBodySize header w h) where
-      pub body-refused : body < least-body → checksAfterSides ≡ refused 4
+    module _ (min-body : ℕ) (eb : min-body ≡ minBodySize header w h) where
+      pub body-refused : body < min-body → checksAfterSides ≡ refused 4
       body-refused l = loss-passed ∙ check-refuses _ checksFromWork passedAnswer (lt-ltb body (minBodySize header w h) (rw eb at l))
 
-      module _ (lb : least-body ≤ body) (least-work : ℕ) (ek : least-work ≡ workSize header w h) where
+      module _ (lb : min-body ≤ body) (min-work : ℕ) (ek : min-work ≡ workSize header w h) where
         body-passed : checksAfterSides ≡ firstRefusal checksFromWork passedAnswer
         body-passed = loss-passed ∙ check-passes _ checksFromWork passedAnswer (le-ltb body (minBodySize header w h) (rw eb at lb))
 
-        pub work-refused : work < least-work → checksAfterSides ≡ refused 5
+        pub work-refused : work < min-work → checksAfterSides ≡ refused 5
         work-refused l = body-passed ∙ check-refuses _ checksFromImage passedAnswer (lt-ltb work (workSize header w h) (rw ek at l))
 
-        module _ (lk : least-work ≤ work) (least-image : ℕ) (ei : least-image ≡ imageSize w h) where
+        module _ (lk : min-work ≤ work) (min-image : ℕ) (ei : min-image ≡ imageSize w h) where
           work-passed : checksAfterSides ≡ firstRefusal checksFromImage passedAnswer
           work-passed = body-passed ∙ check-passes _ checksFromImage passedAnswer (le-ltb work (workSize header w h) (rw ek at lk))
 
-          pub image-refused : image < least-image → checksAfterSides ≡ refused 6
+          pub image-refused : image < min-image → checksAfterSides ≡ refused 6
           image-refused l = work-passed ∙ check-refuses _ [] passedAnswer (lt-ltb image (imageSize w h) (rw ei at l))
 
-          pub all-passed : least-image ≤ image → counted least-image ≡ checksAfterSides
+          pub all-passed : min-image ≤ image → counted min-image ≡ checksAfterSides
           all-passed l = ap counted ei ∙ sym (work-passed ∙ check-passes _ [] passedAnswer (le-ltb image (imageSize w h) (rw ei at l)) ∙ no-checks passedAnswer)
 
 -- ---- where all are passed, what is known of the slices
@@ -66,9 +66,9 @@ pub record ChecksPassed (header : BitmapStreamHeader) (w h body work image n : �
   pub width-most : w ≤ 8192
   pub height-most : h ≤ 8192
   pub loss : isLossLevelInvalid (header .«color_plane_definition») ≡ false
-  pub body-least : minBodySize header w h ≤ body
-  pub work-least : workSize header w h ≤ work
-  pub image-least : imageSize w h ≤ image
+  pub body-enough : minBodySize header w h ≤ body
+  pub work-enough : workSize header w h ≤ work
+  pub image-enough : imageSize w h ≤ image
   pub answer : n ≡ imageSize w h
 
 pub checks-passed : (header : BitmapStreamHeader) (w h body work image n : ℕ) → checkPicture header w h body work image ≡ counted n → ChecksPassed header w h body work image n
@@ -85,8 +85,8 @@ checks-passed header w h body work image n e =
       width-most = sides .wide;
       height-most = sides .high;
       loss = three .0;
-      body-least = ltb-false body (minBodySize header w h) (four .0);
-      work-least = ltb-false work (workSize header w h) (five .0);
-      image-least = ltb-false image (imageSize w h) (six .0);
+      body-enough = ltb-false body (minBodySize header w h) (four .0);
+      work-enough = ltb-false work (workSize header w h) (five .0);
+      image-enough = ltb-false image (imageSize w h) (six .0);
       answer = cc;
     }

@@ -14,6 +14,6 @@ abbrev pub check : (number : ℕ) (given : Bool) → Check
 check n g = record { number = n; given = g }
 
 -- the first refusal whose condition holds; `passed` is the answer if there is none
-unfoldable pub firstRefusal : (tests : List Check) (passed : Answer) → Answer
+unfoldable pub firstRefusal : (checks : List Check) (passed : Answer) → Answer
 firstRefusal [] passed = passed
-firstRefusal (t ∷ tests) passed = choose (t .given) (refused (t .number)) (firstRefusal tests passed)
+firstRefusal (t ∷ checks) passed = choose (t .given) (refused (t .number)) (firstRefusal checks passed)

@@ -1,5 +1,5 @@
 -- The examples that are proved (FORMAT 10, those with *), of planes and of pictures: one constant list, what the definitions compute for
--- each, and what they should. proofs/Examples.antt has the one proof.
+-- each, and what is expected. proofs/Examples.antt has the one proof.
 use Prim.Native.Nat.{ℕ}
 use mathlib.Core.Bool.{Bool, true, false}
 use mathlib.Core.List.{List, [], _∷_, _++_, map}
@@ -20,13 +20,13 @@ pub data Example : Type 0 where
 abbrev pub imageAndAnswer : PictureOutcome → planes.After
 imageAndAnswer p = record { slice = p .image; answer = p .answer }
 
--- what the definitions compute; work area and image have their minimum sizes, and all their bytes were `EE`
+-- what the definitions compute; work area and image have their minimum sizes, and all their bytes are `EE` before the call
 abbrev pub computed : Example → List planes.After
 computed (plane e) = planes.computed e
 computed (unpacksTo header w h body image) =
     imageAndAnswer (unpackPicture header w h body (replicate (workSize header w h) 0xEE) (replicate (length image) 0xEE)) ∷ []
 
--- what they should
+-- what is expected
 abbrev pub expected : Example → List planes.After
 expected (plane e) = planes.expected e
 expected (unpacksTo header w h body image) = record { slice = image; answer = counted (length image) } ∷ []

@@ -9,8 +9,8 @@ use Rattle.bitmap_format.specs.declared.BitmapStreamHeader.{BitmapStream
 use Rattle.bitmap_format.specs.declared.ColorPlaneDefinition.the-variants.{Argb}
 use Rattle.bitmap_format.specs.PackPicture.{pixelPlanes, pixelPlanesAlpha, packPicture, headerToSend, EncodedAnswer, encodedCount, encodedRefusal, withHeader}
 
--- a picture of height 1, from B, G, R, A pixels, packed with alpha or without into `room` bytes that all were `EE`; the slice afterwards and
--- the answer
+-- a picture of height 1, from B, G, R, A pixels, packed with alpha or without into `room` bytes, all of them `EE` before the call; the slice
+-- afterwards and the answer
 pub record Example : Type 0 where
   pub alpha : Bool
   pub rle : Bool
@@ -35,7 +35,7 @@ computed e = record {
   answer = withHeader (headerToSend (e .alpha) (e .rle)) (packPicture (e .rle) (e .width) 1 (e .room) (planes (e .alpha) (e .pixels)) .answer);
 }
 
--- what they should
+-- what is expected
 abbrev pub expected : Example → After
 expected e = record { slice = e .slice; answer = e .answer }
 

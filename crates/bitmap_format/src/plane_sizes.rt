@@ -41,8 +41,8 @@ fn min_compressed_plane_size(width: usize, height: usize) -> usize
 // The minimum size of a plane, RLE or raw. The second clause bounds it, so that callers can add without overflow.
 pub(crate) fn min_plane_size(rle: bool, width: usize, height: usize) -> usize
     requires { ⌜ (width ≤ 8192) × (height ≤ 8192) ⌝ }
-    ensures least { λ r. ⌜ r ≡ minPlaneSize rle (planeAt width height 0) ⌝ }
-    ensures most { λ r. ⌜ r ≤ 67108864 ⌝ }
+    ensures size { λ r. ⌜ r ≡ minPlaneSize rle (planeAt width height 0) ⌝ }
+    ensures bound { λ r. ⌜ r ≤ 67108864 ⌝ }
 {
     if rle {
         return min_compressed_plane_size(width, height);
@@ -58,8 +58,8 @@ pub(crate) fn min_color_planes_size(
     height: usize,
 ) -> usize
     requires { ⌜ (width ≤ 8192) × (height ≤ 8192) ⌝ }
-    ensures least { λ r. ⌜ r ≡ sumOver (minPlaneSize rle) (colourPlanes subsampling width height) ⌝ }
-    ensures most { λ r. ⌜ r ≤ 201326592 ⌝ }
+    ensures size { λ r. ⌜ r ≡ sumOver (minPlaneSize rle) (colourPlanes subsampling width height) ⌝ }
+    ensures bound { λ r. ⌜ r ≤ 201326592 ⌝ }
 {
     let chroma_width = chroma_side(subsampling, width);
     let chroma_height = chroma_side(subsampling, height);

@@ -68,21 +68,21 @@ fn check_slices(
     ensures { λ r. ⌜ decodedToAnswer r ≡ firstRefusal (pictureChecks header width height body work image) (counted (imageSize width height)) ⌝ }
 {
     let definition = header.color_plane_definition;
-    let loss_is_wrong = is_loss_level_invalid(definition);
-    let least_body = min_body_size(header, width, height);
-    let least_work = work_size(header, width, height);
-    let least_image = image_size(width, height);
-    if loss_is_wrong {
+    let loss_level_is_invalid = is_loss_level_invalid(definition);
+    let min_body = min_body_size(header, width, height);
+    let min_work = work_size(header, width, height);
+    let min_image = image_size(width, height);
+    if loss_level_is_invalid {
         return Decoded::Refused(Refusal::LossLevel);
     }
-    if body < least_body {
+    if body < min_body {
         return Decoded::Refused(Refusal::InvalidUncompressedDataSize);
     }
-    if work < least_work {
+    if work < min_work {
         return Decoded::Refused(Refusal::ShortWork);
     }
-    if image < least_image {
+    if image < min_image {
         return Decoded::Refused(Refusal::ShortImage);
     }
-    Decoded::Written(least_image)
+    Decoded::Written(min_image)
 }

@@ -14,11 +14,11 @@ use Rattle.pixel_format.specs.declared.Layout.{Layout}
 use Rattle.pixel_format.specs.declared.Layout.the-variants.{Planar, BgrA}
 use Rattle.pixel_format.specs.Channel.{ChannelOffsets, bgrA, offsetOf, strided, channel, samplesOf}
 
-pub length-strided : (stride place n : ℕ) (d : List ℕ) → length (strided stride place n d) ≡ n
+pub length-strided : (stride offset n : ℕ) (d : List ℕ) → length (strided stride offset n d) ≡ n
 unfolding strided
-length-strided stride place zero d = refl
-length-strided stride place (suc n) d =
-    omega (arith, length-append (strided stride place n d) (getD d (n * stride + place) 0 ∷ []), length-strided stride place n d)
+length-strided stride offset zero d = refl
+length-strided stride offset (suc n) d =
+    omega (arith, length-append (strided stride offset n d) (getD d (n * stride + offset) 0 ∷ []), length-strided stride offset n d)
 
 -- as many as there are complete pixels
 pub length-channel : (p : ChannelOffsets) (c : Channel) (pixels : List ℕ) → length (channel p c pixels) ≡ length pixels / p .stride
@@ -26,21 +26,21 @@ unfolding channel
 length-channel p c pixels = length-strided (p .stride) (offsetOf p c) (length pixels / p .stride) pixels
 
 -- sample i stands in pixel i
-pub getD-strided : (stride place n : ℕ) (d : List ℕ) (i : ℕ) → i < n → getD (strided stride place n d) i 0 ≡ getD d (i * stride + place) 0
+pub getD-strided : (stride offset n : ℕ) (d : List ℕ) (i : ℕ) → i < n → getD (strided stride offset n d) i 0 ≡ getD d (i * stride + offset) 0
 unfolding strided
-getD-strided stride place zero d i h = absurd (omega arith)
-getD-strided stride place (suc n) d i h =
-    let len = length-strided stride place n d in
+getD-strided stride offset zero d i h = absurd (omega arith)
+getD-strided stride offset (suc n) d i h =
+    let len = length-strided stride offset n d in
     ⊎-elim
-    (λ (l : i < n). List·getD-append (strided stride place n d) (getD d (n * stride + place) 0 ∷ []) 0 i (omega arith) ∙ getD-strided stride place n d i l)
+    (λ (l : i < n). List·getD-append (strided stride offset n d) (getD d (n * stride + offset) 0 ∷ []) 0 i (omega arith) ∙ getD-strided stride offset n d i l)
     (λ (l : n < suc i).
     let e : i ≡ n = omega arith in
-    getD-at (strided stride place n d) (getD d (n * stride + place) 0) [] 0 i (len ∙ sym e) ∙ ap (λ (k : ℕ). getD d (k * stride + place) 0) (sym e))
+    getD-at (strided stride offset n d) (getD d (n * stride + offset) 0) [] 0 i (len ∙ sym e) ∙ ap (λ (k : ℕ). getD d (k * stride + offset) 0) (sym e))
     (le-or-gt (suc i) n)
 
--- the byte at sample i's place of a slice of pixels
-pub strided-at : (stride place n : ℕ) (d : List ℕ) (i k : ℕ) → i < n → k ≡ i * stride + place → getD d k 0 ≡ getD (strided stride place n d) i 0
-strided-at stride place n d i k h e = ap (λ (m : ℕ). getD d m 0) e ∙ sym (getD-strided stride place n d i h)
+-- the byte of sample i in a slice of pixels
+pub strided-at : (stride offset n : ℕ) (d : List ℕ) (i k : ℕ) → i < n → k ≡ i * stride + offset → getD d k 0 ≡ getD (strided stride offset n d) i 0
+strided-at stride offset n d i k h e = ap (λ (m : ℕ). getD d m 0) e ∙ sym (getD-strided stride offset n d i h)
 
 -- ---- a read that asks for more than there are
 
@@ -83,10 +83,10 @@ module _ (l : Layout) (c : Channel) (s : List ℕ) where
         let part : from + n - from ≡ n = omega arith in
         is ∙ (λ i. overwrite d (take (part i) (drop from (samplesOf-planar e i)))) ∙ ap (overwrite d) (read-limited (samplesOf l c s) from n (length d) all)
 
-    pub bgra-read : (place : ℕ) → place ≡ offsetOf bgrA c → l ≡ BgrA → now ≡ overwrite d (take n (drop from (strided 4 place (length s / 4) s)))
+    pub bgra-read : (offset : ℕ) → offset ≡ offsetOf bgrA c → l ≡ BgrA → now ≡ overwrite d (take n (drop from (strided 4 offset (length s / 4) s)))
         → now ≡ overwrite d (take (length d) (drop from (samplesOf l c s)))
     unfolding channel
-    bgra-read place at e is =
+    bgra-read offset at e is =
         is
         ∙ ap (λ (p : ℕ). overwrite d (take n (drop from (strided 4 p (length s / 4) s)))) at
         ∙ ap (λ (t : List ℕ). overwrite d (take n (drop from t))) (samplesOf-bgra e)

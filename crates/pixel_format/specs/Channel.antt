@@ -25,10 +25,10 @@ offsetOf p G = p .g
 offsetOf p B = p .b
 offsetOf p A = p .a
 
--- the bytes at one offset of the first n pixels; pixel k has its byte at index k × stride + place
-unfoldable pub strided : (stride place n : ℕ) (pixels : List ℕ) → List ℕ
-strided stride place zero pixels = []
-strided stride place (suc n) pixels = strided stride place n pixels ++ getD pixels (n * stride + place) 0 ∷ []
+-- the bytes at one offset of the first n pixels; pixel k has its byte at index k × stride + offset
+unfoldable pub strided : (stride offset n : ℕ) (pixels : List ℕ) → List ℕ
+strided stride offset zero pixels = []
+strided stride offset (suc n) pixels = strided stride offset n pixels ++ getD pixels (n * stride + offset) 0 ∷ []
 
 -- a channel of a slice of pixels. Trailing bytes that make no complete pixel are ignored
 unfoldable pub channel : ChannelOffsets → Channel → (pixels : List ℕ) → List ℕ

@@ -9,7 +9,7 @@ use crate::Channel;
 
 // The offset of a channel in a pixel. Callers need the second clause for their indices.
 pub(crate) fn offset_of(channel: Channel) -> usize
-    ensures place { λ r. ⌜ r ≡ offsetOf bgrA channel ⌝ }
+    ensures offset { λ r. ⌜ r ≡ offsetOf bgrA channel ⌝ }
     ensures within { λ r. ⌜ r < 4 ⌝ }
 {
     match channel {
@@ -26,13 +26,13 @@ pub(crate) fn lesser(a: usize, b: usize) -> usize
     if a < b { a } else { b }
 }
 
-// Copies the bytes at offset `place` of four pixels, from pixel `from` on, to dst from index `at` on. Four plain moves are faster than a loop over
+// Copies the bytes at `offset` of four pixels, from pixel `from` on, to dst from index `at` on. Four plain moves are faster than a loop over
 // single pixels, which the compiler vectorises with a gather of single bytes.
-fn copy_four(pixels: &[u8], place: usize, from: usize, dst: &mut [u8], at: usize)
-    requires { ⌜ (place < 4) × ((from + 4 ≤ length (now pixels) / 4) × (at + 4 ≤ length (now dst))) ⌝ }
-    ensures { λ _. ⌜ now (dst .exit) ≡ writeAt (now (dst .entry)) at (take 4 (drop from (strided 4 place (length (now (pixels .entry)) / 4) (now (pixels .entry))))) ⌝ }
+fn copy_four(pixels: &[u8], offset: usize, from: usize, dst: &mut [u8], at: usize)
+    requires { ⌜ (offset < 4) × ((from + 4 ≤ length (now pixels) / 4) × (at + 4 ≤ length (now dst))) ⌝ }
+    ensures { λ _. ⌜ now (dst .exit) ≡ writeAt (now (dst .entry)) at (take 4 (drop from (strided 4 offset (length (now (pixels .entry)) / 4) (now (pixels .entry))))) ⌝ }
 {
-    let first = from * BgrAChannels::STRIDE + place;
+    let first = from * BgrAChannels::STRIDE + offset;
     let a = pixels[first];
     let b = pixels[first + BgrAChannels::STRIDE];
     let c = pixels[first + 2 * BgrAChannels::STRIDE];
@@ -44,27 +44,27 @@ fn copy_four(pixels: &[u8], place: usize, from: usize, dst: &mut [u8], at: usize
 }
 
 // The same for n pixels, one by one.
-fn copy_rest(pixels: &[u8], place: usize, from: usize, n: usize, dst: &mut [u8], at: usize)
-    requires { ⌜ (place < 4) × ((from + n ≤ length (now pixels) / 4) × (at + n ≤ length (now dst))) ⌝ }
-    ensures { λ _. ⌜ now (dst .exit) ≡ writeAt (now (dst .entry)) at (take n (drop from (strided 4 place (length (now (pixels .entry)) / 4) (now (pixels .entry))))) ⌝ }
+fn copy_rest(pixels: &[u8], offset: usize, from: usize, n: usize, dst: &mut [u8], at: usize)
+    requires { ⌜ (offset < 4) × ((from + n ≤ length (now pixels) / 4) × (at + n ≤ length (now dst))) ⌝ }
+    ensures { λ _. ⌜ now (dst .exit) ≡ writeAt (now (dst .entry)) at (take n (drop from (strided 4 offset (length (now (pixels .entry)) / 4) (now (pixels .entry))))) ⌝ }
 {
     let mut i = 0;
     while i < n {
-        dst[at + i] = pixels[(from + i) * BgrAChannels::STRIDE + place];
+        dst[at + i] = pixels[(from + i) * BgrAChannels::STRIDE + offset];
         i += 1;
     }
 }
 
-// Copies the bytes at offset `place` of n pixels, from pixel `from` on, to the start of dst: four at a time, then the rest. The stride is a
+// Copies the bytes at `offset` of n pixels, from pixel `from` on, to the start of dst: four at a time, then the rest. The stride is a
 // constant so that the compiler can compute with it.
-pub(crate) fn copy_channel(pixels: &[u8], place: usize, from: usize, n: usize, dst: &mut [u8])
-    requires { ⌜ (place < 4) × (from + n ≤ length (now pixels) / 4) × (n ≤ length (now dst)) ⌝ }
-    ensures { λ _. ⌜ now (dst .exit) ≡ overwrite (now (dst .entry)) (take n (drop from (strided 4 place (length (now (pixels .entry)) / 4) (now (pixels .entry))))) ⌝ }
+pub(crate) fn copy_channel(pixels: &[u8], offset: usize, from: usize, n: usize, dst: &mut [u8])
+    requires { ⌜ (offset < 4) × (from + n ≤ length (now pixels) / 4) × (n ≤ length (now dst)) ⌝ }
+    ensures { λ _. ⌜ now (dst .exit) ≡ overwrite (now (dst .entry)) (take n (drop from (strided 4 offset (length (now (pixels .entry)) / 4) (now (pixels .entry))))) ⌝ }
 {
     let mut i = 0;
     while 4 <= n - i {
-        copy_four(pixels, place, from + i, dst, i);
+        copy_four(pixels, offset, from + i, dst, i);
         i += 4;
     }
-    copy_rest(pixels, place, from + i, n - i, dst, i);
+    copy_rest(pixels, offset, from + i, n - i, dst, i);
 }

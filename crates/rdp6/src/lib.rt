@@ -14,7 +14,7 @@ ghost use Rattle.bitmap_format.specs.Picture.{unpackPicture, decodedToAnswer};
 ghost use Rattle.pixel_format.specs.Channel.{bgrA};
 ghost use Rattle.bitmap_format.specs.PackPicture.{threePlanes, fourPlanes, pixelPlanes, pixelPlanesAlpha, packPicture, encodedToAnswer};
 ghost use Rattle.rdp6.specs.Number.{cNumber, dropHeader};
-ghost use Rattle.rdp6.specs.Header.{cDefinition, cHeader};
+ghost use Rattle.rdp6.specs.Header.{cLevel, cDefinition, cHeader};
 use bitmap_format::BitmapStreamHeader;
 use bitmap_format::ColorPlaneDefinition;
 use bitmap_format::Decoded;
@@ -74,8 +74,18 @@ fn encoded_number(answer: Encoded) -> i64
     }
 }
 
+// The loss level, from an argument of a C function. A number that is no level becomes 0 before it is narrowed: 257 must not become 1.
+fn level_of(level: u32) -> u8
+    ensures { λ r. ⌜ r ≡ cLevel level ⌝ }
+{
+    if level > 7 {
+        return 0;
+    }
+    level as u8
+}
+
 // The plane definition, from the arguments of a C function. An unknown number is refused with 3, by way of loss level 0.
-fn definition_of(definition: u8, level: u8, subsampling: bool) -> ColorPlaneDefinition
+fn definition_of(definition: u32, level: u32, subsampling: bool) -> ColorPlaneDefinition
     ensures { λ r. ⌜ r ≡ cDefinition definition level subsampling ⌝ }
 {
     if definition == 0 {
@@ -83,7 +93,7 @@ fn definition_of(definition: u8, level: u8, subsampling: bool) -> ColorPlaneDefi
     }
     if definition == 1 {
         return ColorPlaneDefinition::AYCoCg {
-            color_loss_level: level,
+            color_loss_level: level_of(level),
             use_chroma_subsampling: subsampling,
         };
     }
@@ -97,8 +107,8 @@ fn definition_of(definition: u8, level: u8, subsampling: bool) -> ColorPlaneDefi
 fn header_of(
     rle: bool,
     alpha: bool,
-    definition: u8,
-    level: u8,
+    definition: u32,
+    level: u32,
     subsampling: bool,
 ) -> BitmapStreamHeader
     ensures { λ r. ⌜ r ≡ cHeader rle alpha definition level subsampling ⌝ }
@@ -140,8 +150,8 @@ pub extern "C" fn rdp6_compress_8bpp_plane(
 pub extern "C" fn rdp6_decode(
     rle: bool,
     alpha: bool,
-    definition: u8,
-    level: u8,
+    definition: u32,
+    level: u32,
     subsampling: bool,
     body: &[u8],
     work: &mut [u8],
@@ -160,7 +170,7 @@ pub extern "C" fn rdp6_decode(
 #[no_mangle]
 pub extern "C" fn rdp6_work_size(
     rle: bool,
-    definition: u8,
+    definition: u32,
     subsampling: bool,
     width: usize,
     height: usize,

@@ -1,5 +1,5 @@
--- The examples of planes that are proved (FORMAT 10, those with *): one constant list, what the definitions compute for each, and what they
--- should. proofs/Examples.antt has the one proof.
+-- The examples of planes that are proved (FORMAT 10, those with *): one constant list, what the definitions compute for each, and what is
+-- expected. proofs/Examples.antt has the one proof.
 use Prim.Native.Nat.{ℕ, _*_}
 use mathlib.Core.List.{List, [], _∷_, _++_}
 use lib.ListN.{length, replicate}
@@ -18,17 +18,17 @@ pub data Example : Type 0 where
   packsAndUnpacks : (width height : ℕ) (samples packing : List ℕ) → Example
   unpacks : (width height : ℕ) (body plane : List ℕ) → Answer → Example
 
--- the call on a slice of `room` bytes that all were `EE`
-abbrev pub ontoFilledSlice : (room : ℕ) → Outcome → After
-ontoFilledSlice room o = record { slice = overwrite (replicate room 0xEE) (o .written); answer = o .answer }
+-- an outcome applied to a slice of `room` bytes, all of them `EE` before the call
+abbrev pub intoFilledSlice : (room : ℕ) → Outcome → After
+intoFilledSlice room o = record { slice = overwrite (replicate room 0xEE) (o .written); answer = o .answer }
 
 -- what the definitions compute: planes are packed into as many bytes as the packing has, bodies unpacked into width × height bytes
 abbrev pub computed : Example → List After
 computed (packsAndUnpacks w h samples packing) =
-    ontoFilledSlice (length packing) (packPlane w h (length packing) samples) ∷ ontoFilledSlice (w * h) (unpackPlane w h (w * h) packing) ∷ []
-computed (unpacks w h body plane a) = ontoFilledSlice (w * h) (unpackPlane w h (w * h) body) ∷ []
+    intoFilledSlice (length packing) (packPlane w h (length packing) samples) ∷ intoFilledSlice (w * h) (unpackPlane w h (w * h) packing) ∷ []
+computed (unpacks w h body plane a) = intoFilledSlice (w * h) (unpackPlane w h (w * h) body) ∷ []
 
--- what they should
+-- what is expected
 abbrev pub expected : Example → List After
 expected (packsAndUnpacks w h samples packing) =
     record { slice = packing; answer = counted (length packing) }

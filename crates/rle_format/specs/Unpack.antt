@@ -22,7 +22,7 @@ prependRow vs n (full codes read) = full (vs ++ codes) (n + read)
 prependRow vs n (stopped codes r) = stopped (vs ++ codes) r
 
 -- the rest of a row (FORMAT 4.1): `room` is the number of values that it still has room for, `last` the last byte. `bound` limits the number of
--- segments, so that the recursion ends; number 0, which is no refusal, stands for a limit that was too low. Every segment has at least one
+-- segments, so that the recursion ends; number 0, which is no refusal, marks a bound that was too low. Every segment has at least one
 -- value, so that a bound of at least `room` is never too low (proofs/Row.antt: row-bounded)
 unfoldable pub readRow : (bound room last : ℕ) (body : List ℕ) → RowRead
 readRow zero zero last body = full [] 0

@@ -35,7 +35,7 @@ decode-rle-requires : tie.Need-decode-rle-requires
 decode-rle-requires c κs =
     let k = known ((c .before .before .before)) in
     let a = c .before .before .before .before .before .before .before .before .before .args in
-    (k .loss, k .width-most, k .height-most, rle-work-enough (a .header) (a .width) (a .height) _ (c .before .before .if1 .taken) (k .work-least), k .image-least)
+    (k .loss, k .width-most, k .height-most, rle-work-enough (a .header) (a .width) (a .height) _ (c .before .before .if1 .taken) (k .work-enough), k .image-enough)
 
 same-length : tie.Need-same-length
 same-length c = search needs
@@ -54,7 +54,7 @@ decode-raw-requires : tie.Need-decode-raw-requires
 decode-raw-requires c κs =
     let k = known ((c .before .before)) in
     let a = c .before .before .before .before .before .before .before .before .args in
-    (k .loss, k .width-most, k .height-most, raw-body-enough (a .header) (a .width) (a .height) _ (c .before .if1 .left) (k .body-least), k .image-least)
+    (k .loss, k .width-most, k .height-most, raw-body-enough (a .header) (a .width) (a .height) _ (c .before .if1 .left) (k .body-enough), k .image-enough)
 
 same-length-3 : tie.Need-same-length-3
 same-length-3 c = search needs

@@ -1,4 +1,4 @@
--- `image_size`: 0 for sides that fail their tests, else the product. Assumes nothing.
+-- `image_size`: 0 for sides that are refused, else the product. Assumes nothing.
 use Prim.Native.Nat.{ℕ}
 use borrow.Author.Tests.{not-true, not-false}
 use native.Mathlib.Omega.{arith}

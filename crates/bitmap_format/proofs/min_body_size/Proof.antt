@@ -1,4 +1,4 @@
--- `min_body_size`: 0 for sides that fail their tests, else the sum over the planes, with alpha and without. Assumes nothing.
+-- `min_body_size`: 0 for sides that are refused, else the sum over the planes, with alpha and without. Assumes nothing.
 use native.Mathlib.Omega.{arith}
 use mathlib.Core.Path.{sym, _∙_}
 use Prim.Native.Nat.{ℕ}

@@ -1,4 +1,4 @@
--- `work_size`: 0 for sides that fail their tests and for a raw picture, else the samples of the colour planes. Assumes nothing.
+-- `work_size`: 0 for sides that are refused and for a raw picture, else the samples of the colour planes. Assumes nothing.
 use native.Mathlib.Omega.{arith}
 use mathlib.Core.Path.{sym, _∙_}
 use Prim.Native.Nat.{ℕ}

@@ -7,19 +7,19 @@ use borrow.Author.Needs.{needs}
 use Rattle.bitmap_refusals.proofs.check_slices.Statement.{statement}
 use Rattle.bitmap_refusals.proofs.check_slices.Tie as tie
 
--- the least sizes, since the sides are right
-least-body : (k : tie.After-image-size) → k .before .before .min-body-size .result ≡ minBodySize (k .before .before .before .before .args .header) (k .before .before .before .before .args .width) (k .before .before .before .before .args .height)
-least-body k =
+-- the minimum sizes, since the sides are right
+min-body : (k : tie.After-image-size) → k .before .before .min-body-size .result ≡ minBodySize (k .before .before .before .before .args .header) (k .before .before .before .before .args .width) (k .before .before .before .before .args .height)
+min-body k =
     let s = (k .before .before .before .before) in
     k .before .before .min-body-size .ensures ∙ sides-allowed _ _ _ _ (s .pre .0) (s .pre .1) (s .pre .2) (s .pre .3)
 
-least-work : (k : tie.After-image-size) → k .before .work-size .result ≡ workSize (k .before .before .before .before .args .header) (k .before .before .before .before .args .width) (k .before .before .before .before .args .height)
-least-work k =
+min-work : (k : tie.After-image-size) → k .before .work-size .result ≡ workSize (k .before .before .before .before .args .header) (k .before .before .before .before .args .width) (k .before .before .before .before .args .height)
+min-work k =
     let s = (k .before .before .before .before) in
     k .before .work-size .ensures ∙ sides-allowed _ _ _ _ (s .pre .0) (s .pre .1) (s .pre .2) (s .pre .3)
 
-least-image : (k : tie.After-image-size) → k .image-size .result ≡ imageSize (k .before .before .before .before .args .width) (k .before .before .before .before .args .height)
-least-image k =
+min-image : (k : tie.After-image-size) → k .image-size .result ≡ imageSize (k .before .before .before .before .args .width) (k .before .before .before .before .args .height)
+min-image k =
     let s = (k .before .before .before .before) in
     k .image-size .ensures ∙ sides-allowed _ _ _ _ (s .pre .0) (s .pre .1) (s .pre .2) (s .pre .3)
 
@@ -39,22 +39,22 @@ returns : tie.Need-returns
 returns c = sym (loss-refused _ _ _ _ _ _ (sym (c .before .before .before .before .is-loss-level-invalid .ensures) ∙ c .if1 .taken))
 
 returns-2 : tie.Need-returns-2
-returns-2 c = sym (body-refused _ _ _ _ _ _ (sym (c .before .before .before .before .before .is-loss-level-invalid .ensures) ∙ c .before .if1 .left) (c .before .before .before .before .min-body-size .result) (least-body ((c .before .before))) (c .if2 .taken))
+returns-2 c = sym (body-refused _ _ _ _ _ _ (sym (c .before .before .before .before .before .is-loss-level-invalid .ensures) ∙ c .before .if1 .left) (c .before .before .before .before .min-body-size .result) (min-body ((c .before .before))) (c .if2 .taken))
 
 returns-3 : tie.Need-returns-3
 returns-3 c =
     let k = (c .before .before .before) in
-    sym (work-refused _ _ _ _ _ _ (sym (c .before .before .before .before .before .before .is-loss-level-invalid .ensures) ∙ c .before .before .if1 .left) (k .before .before .min-body-size .result) (least-body k) (c .before .if2 .left) (k .before .work-size .result) (least-work k) (c .if3 .taken))
+    sym (work-refused _ _ _ _ _ _ (sym (c .before .before .before .before .before .before .is-loss-level-invalid .ensures) ∙ c .before .before .if1 .left) (k .before .before .min-body-size .result) (min-body k) (c .before .if2 .left) (k .before .work-size .result) (min-work k) (c .if3 .taken))
 
 returns-4 : tie.Need-returns-4
 returns-4 c =
     let k = (c .before .before .before .before) in
-    sym (image-refused _ _ _ _ _ _ (sym (c .before .before .before .before .before .before .before .is-loss-level-invalid .ensures) ∙ c .before .before .before .if1 .left) (k .before .before .min-body-size .result) (least-body k) (c .before .before .if2 .left) (k .before .work-size .result) (least-work k) (c .before .if3 .left) (k .image-size .result) (least-image k) (c .if4 .taken))
+    sym (image-refused _ _ _ _ _ _ (sym (c .before .before .before .before .before .before .before .is-loss-level-invalid .ensures) ∙ c .before .before .before .if1 .left) (k .before .before .min-body-size .result) (min-body k) (c .before .before .if2 .left) (k .before .work-size .result) (min-work k) (c .before .if3 .left) (k .image-size .result) (min-image k) (c .if4 .taken))
 
 returns-5 : tie.Need-returns-5
 returns-5 c =
     let k = (c .before .before .before .before) in
-    all-passed _ _ _ _ _ _ (sym (c .before .before .before .before .before .before .before .is-loss-level-invalid .ensures) ∙ c .before .before .before .if1 .left) (k .before .before .min-body-size .result) (least-body k) (c .before .before .if2 .left) (k .before .work-size .result) (least-work k) (c .before .if3 .left) (k .image-size .result) (least-image k) (c .if4 .left)
+    all-passed _ _ _ _ _ _ (sym (c .before .before .before .before .before .before .before .is-loss-level-invalid .ensures) ∙ c .before .before .before .if1 .left) (k .before .before .min-body-size .result) (min-body k) (c .before .before .if2 .left) (k .before .work-size .result) (min-work k) (c .before .if3 .left) (k .image-size .result) (min-image k) (c .if4 .left)
 
 pub check-slices-spec : {M : Type 1} → statement M
 check-slices-spec =

@@ -17,8 +17,8 @@ use Rattle.bitmap_encoder.proofs.planes.encode_four.Tie as tie
 check-sources-requires : tie.Need-check-sources-requires
 check-sources-requires c κs = search needs
 
-enum-known-tested : tie.Need-enum-known-tested
-enum-known-tested c = search needs
+enum-known-checked : tie.Need-enum-known-checked
+enum-known-checked c = search needs
 
 enum-told : tie.Need-enum-told
 enum-told c = search needs
@@ -31,8 +31,8 @@ returns c =
 compress-next-plane-requires : tie.Need-compress-next-plane-requires
 compress-next-plane-requires c κs =
     let a = c .before .before .before .before .before .before .before .before .before .before .before .args in
-    let e = sym (c .before .before .before .before .before .check-sources .ensures) ∙ ap packedToAnswer (c .before .before .before .tested .given .1) in
-    let i = checked-planes (a .width) (a .height) (fourChannels (a .layout) (a .r .now) (a .g .now) (a .b .now) (a .a .now)) (c .before .before .before .tested .given .0 .0) e in
+    let e = sym (c .before .before .before .before .before .check-sources .ensures) ∙ ap packedToAnswer (c .before .before .before .checked .given .1) in
+    let i = checked-planes (a .width) (a .height) (fourChannels (a .layout) (a .r .now) (a .g .now) (a .b .now) (a .a .now)) (c .before .before .before .checked .given .0 .0) e in
     (i .0, i .1 .0, omega arith)
 
 enum-known-alpha : tie.Need-enum-known-alpha
@@ -47,17 +47,17 @@ same-length c = search needs
 returns-2 : tie.Need-returns-2
 returns-2 c =
     let a = c .before .before .before .before .before .before .before .before .before .before .before .before .before .before .before .before .args in
-    let e = sym (c .before .before .before .before .before .before .before .before .before .before .check-sources .ensures) ∙ ap packedToAnswer (c .before .before .before .before .before .before .before .before .tested .given .1) in
+    let e = sym (c .before .before .before .before .before .before .before .before .before .before .check-sources .ensures) ∙ ap packedToAnswer (c .before .before .before .before .before .before .before .before .checked .given .1) in
     let p = c .before .before .before .before .compress-next-plane in
     let head = write-start (pictureSegments (a .width) (a .height) (fourChannels (a .layout) (a .r .now) (a .g .now) (a .b .now) (a .a .now))) (a .dst .now) 0 (omega arith) in
     let stop = planes-refused (a .width) (a .height) (samplesOf (a .layout) A (a .a .now)) _ (p .result) (p .ensures) (threeChannels (a .layout) (a .r .now) (a .g .now) (a .b .now)) head (c .enum-told2 .given .0 .0) (c .enum-told2 .given .1) in
-    packs-rle (a .rle) (a .width) (a .height) (fourChannels (a .layout) (a .r .now) (a .g .now) (a .b .now) (a .a .now)) (a .dst .now) (c .before .before .before .before .before .before .before .before .tested .given .0 .0) e _ (p .result) (c .before .before .before .before .before .before .if1 .taken) stop
+    packs-rle (a .rle) (a .width) (a .height) (fourChannels (a .layout) (a .r .now) (a .g .now) (a .b .now) (a .a .now)) (a .dst .now) (c .before .before .before .before .before .before .before .before .checked .given .0 .0) e _ (p .result) (c .before .before .before .before .before .before .if1 .taken) stop
 
 compress-colors-requires : tie.Need-compress-colors-requires
 compress-colors-requires c κs =
     let a = c .before .before .before .before .before .before .before .before .before .before .before .before .before .before .before .before .before .before .args in
-    let e = sym (c .before .before .before .before .before .before .before .before .before .before .before .before .check-sources .ensures) ∙ ap packedToAnswer (c .before .before .before .before .before .before .before .before .before .before .tested .given .1) in
-    let i = checked-planes (a .width) (a .height) (fourChannels (a .layout) (a .r .now) (a .g .now) (a .b .now) (a .a .now)) (c .before .before .before .before .before .before .before .before .before .before .tested .given .0 .0) e in
+    let e = sym (c .before .before .before .before .before .before .before .before .before .before .before .before .check-sources .ensures) ∙ ap packedToAnswer (c .before .before .before .before .before .before .before .before .before .before .checked .given .1) in
+    let i = checked-planes (a .width) (a .height) (fourChannels (a .layout) (a .r .now) (a .g .now) (a .b .now) (a .a .now)) (c .before .before .before .before .before .before .before .before .before .before .checked .given .0 .0) e in
     let p = c .before .before .before .before .before .before .compress-next-plane in
     let head = write-start (pictureSegments (a .width) (a .height) (fourChannels (a .layout) (a .r .now) (a .g .now) (a .b .now) (a .a .now))) (a .dst .now) 0 (omega arith) in
     let turn = planes-step (a .width) (a .height) (samplesOf (a .layout) A (a .a .now)) _ (p .result) (p .ensures) (threeChannels (a .layout) (a .r .now) (a .g .now) (a .b .now)) head (c .before .before .alpha .given .0 .0) (c .before .before .alpha .given .1) in
@@ -69,39 +69,39 @@ same-length-2 c = search needs
 returns-3 : tie.Need-returns-3
 returns-3 c =
     let a = c .before .before .before .before .before .before .before .before .before .before .before .before .before .before .before .before .before .before .before .before .before .args in
-    let e = sym (c .before .before .before .before .before .before .before .before .before .before .before .before .before .before .before .check-sources .ensures) ∙ ap packedToAnswer (c .before .before .before .before .before .before .before .before .before .before .before .before .before .tested .given .1) in
+    let e = sym (c .before .before .before .before .before .before .before .before .before .before .before .before .before .before .before .check-sources .ensures) ∙ ap packedToAnswer (c .before .before .before .before .before .before .before .before .before .before .before .before .before .checked .given .1) in
     let p = c .before .before .before .before .before .before .before .before .before .compress-next-plane in
     let q = c .before .before .compress-colors in
     let head = write-start (pictureSegments (a .width) (a .height) (fourChannels (a .layout) (a .r .now) (a .g .now) (a .b .now) (a .a .now))) (a .dst .now) 0 (omega arith) in
     let turn = planes-step (a .width) (a .height) (samplesOf (a .layout) A (a .a .now)) _ (p .result) (p .ensures) (threeChannels (a .layout) (a .r .now) (a .g .now) (a .b .now)) head (c .before .before .before .before .before .alpha .given .0 .0) (c .before .before .before .before .before .alpha .given .1) in
-    packs-rle (a .rle) (a .width) (a .height) (fourChannels (a .layout) (a .r .now) (a .g .now) (a .b .now) (a .a .now)) (a .dst .now) (c .before .before .before .before .before .before .before .before .before .before .before .before .before .tested .given .0 .0) e _ (q .result) (c .before .before .before .before .before .before .before .before .before .before .before .if1 .taken) (write-last turn _ (q .result) (q .ensures))
+    packs-rle (a .rle) (a .width) (a .height) (fourChannels (a .layout) (a .r .now) (a .g .now) (a .b .now) (a .a .now)) (a .dst .now) (c .before .before .before .before .before .before .before .before .before .before .before .before .before .checked .given .0 .0) e _ (q .result) (c .before .before .before .before .before .before .before .before .before .before .before .if1 .taken) (write-last turn _ (q .result) (q .ensures))
 
 mul-if2 : tie.Need-mul-if2
 mul-if2 c =
     let a = c .before .before .before .before .before .before .before .before .before .before .args in
-    let e = sym (c .before .before .before .before .check-sources .ensures) ∙ ap packedToAnswer (c .before .before .tested .given .1) in
-    omega (arith, checked-count-max (a .width) (a .height) (fourChannels (a .layout) (a .r .now) (a .g .now) (a .b .now) (a .a .now)) (c .before .before .tested .given .0 .0) e)
+    let e = sym (c .before .before .before .before .check-sources .ensures) ∙ ap packedToAnswer (c .before .before .checked .given .1) in
+    omega (arith, checked-count-max (a .width) (a .height) (fourChannels (a .layout) (a .r .now) (a .g .now) (a .b .now) (a .a .now)) (c .before .before .checked .given .0 .0) e)
 
 returns-4 : tie.Need-returns-4
 returns-4 c =
     let a = c .before .before .before .before .before .before .before .before .before .before .before .args in
-    let e = sym (c .before .before .before .before .before .check-sources .ensures) ∙ ap packedToAnswer (c .before .before .before .tested .given .1) in
-    packs-no-room (a .rle) (a .width) (a .height) (fourChannels (a .layout) (a .r .now) (a .g .now) (a .b .now) (a .a .now)) (a .dst .now) (c .before .before .before .tested .given .0 .0) e 4 refl (c .before .if1 .left) (c .if2 .taken)
+    let e = sym (c .before .before .before .before .before .check-sources .ensures) ∙ ap packedToAnswer (c .before .before .before .checked .given .1) in
+    packs-no-room (a .rle) (a .width) (a .height) (fourChannels (a .layout) (a .r .now) (a .g .now) (a .b .now) (a .a .now)) (a .dst .now) (c .before .before .before .checked .given .0 .0) e 4 refl (c .before .if1 .left) (c .if2 .taken)
 
 write-plane-requires : tie.Need-write-plane-requires
 write-plane-requires c κs =
     let a = c .before .before .before .before .before .before .before .before .before .before .before .before .args in
-    let e = sym (c .before .before .before .before .before .before .check-sources .ensures) ∙ ap packedToAnswer (c .before .before .before .before .tested .given .1) in
-    let i = checked-planes (a .width) (a .height) (fourChannels (a .layout) (a .r .now) (a .g .now) (a .b .now) (a .a .now)) (c .before .before .before .before .tested .given .0 .0) e in
-    let n = checked-count (a .width) (a .height) (fourChannels (a .layout) (a .r .now) (a .g .now) (a .b .now) (a .a .now)) (c .before .before .before .before .tested .given .0 .0) e in
+    let e = sym (c .before .before .before .before .before .before .check-sources .ensures) ∙ ap packedToAnswer (c .before .before .before .before .checked .given .1) in
+    let i = checked-planes (a .width) (a .height) (fourChannels (a .layout) (a .r .now) (a .g .now) (a .b .now) (a .a .now)) (c .before .before .before .before .checked .given .0 .0) e in
+    let n = checked-count (a .width) (a .height) (fourChannels (a .layout) (a .r .now) (a .g .now) (a .b .now) (a .a .now)) (c .before .before .before .before .checked .given .0 .0) e in
     (omega (arith, i .1 .0), omega arith)
 
 write-colors-requires : tie.Need-write-colors-requires
 write-colors-requires c κs =
     let a = c .before .before .before .before .before .before .before .before .before .before .before .before .before .before .before .before .args in
-    let e = sym (c .before .before .before .before .before .before .before .before .before .before .check-sources .ensures) ∙ ap packedToAnswer (c .before .before .before .before .before .before .before .before .tested .given .1) in
-    let i = checked-planes (a .width) (a .height) (fourChannels (a .layout) (a .r .now) (a .g .now) (a .b .now) (a .a .now)) (c .before .before .before .before .before .before .before .before .tested .given .0 .0) e in
-    let n = checked-count (a .width) (a .height) (fourChannels (a .layout) (a .r .now) (a .g .now) (a .b .now) (a .a .now)) (c .before .before .before .before .before .before .before .before .tested .given .0 .0) e in
+    let e = sym (c .before .before .before .before .before .before .before .before .before .before .check-sources .ensures) ∙ ap packedToAnswer (c .before .before .before .before .before .before .before .before .checked .given .1) in
+    let i = checked-planes (a .width) (a .height) (fourChannels (a .layout) (a .r .now) (a .g .now) (a .b .now) (a .a .now)) (c .before .before .before .before .before .before .before .before .checked .given .0 .0) e in
+    let n = checked-count (a .width) (a .height) (fourChannels (a .layout) (a .r .now) (a .g .now) (a .b .now) (a .a .now)) (c .before .before .before .before .before .before .before .before .checked .given .0 .0) e in
     let kept = c .before .before .before .write-plane .kept .1 .1 .1 .0 in
     (omega (arith, i .1 .1 .0), omega (arith, i .1 .1 .1 .0), omega (arith, i .1 .1 .1 .1 .0), omega arith)
 
@@ -117,18 +117,18 @@ same-length-3 c = search needs
 returns-5 : tie.Need-returns-5
 returns-5 c =
     let a = c .before .before .before .before .before .before .before .before .before .before .before .before .before .before .before .before .before .before .before .args in
-    let e = sym (c .before .before .before .before .before .before .before .before .before .before .before .before .before .check-sources .ensures) ∙ ap packedToAnswer (c .before .before .before .before .before .before .before .before .before .before .before .tested .given .1) in
-    let i = checked-planes (a .width) (a .height) (fourChannels (a .layout) (a .r .now) (a .g .now) (a .b .now) (a .a .now)) (c .before .before .before .before .before .before .before .before .before .before .before .tested .given .0 .0) e in
-    let n = checked-count (a .width) (a .height) (fourChannels (a .layout) (a .r .now) (a .g .now) (a .b .now) (a .a .now)) (c .before .before .before .before .before .before .before .before .before .before .before .tested .given .0 .0) e in
-    let put = write-alpha-first (samplesOf (a .layout) A (a .a .now)) (threeChannels (a .layout) (a .r .now) (a .g .now) (a .b .now)) (a .dst .now) _ _ (c .before .before .before .before .before .before .before .before .before .before .before .tested .given .0 .0) (omega (arith, i .1 .0)) (omega arith) (c .before .before .before .before .before .before .write-plane .ensures) (c .before .before .write-colors .ensures) in
-    packs-raw (a .rle) (a .width) (a .height) (fourChannels (a .layout) (a .r .now) (a .g .now) (a .b .now) (a .a .now)) (a .dst .now) (c .before .before .before .before .before .before .before .before .before .before .before .tested .given .0 .0) e 4 refl (c .before .before .before .before .before .before .before .before .before .if1 .left) _ (omega arith) put
+    let e = sym (c .before .before .before .before .before .before .before .before .before .before .before .before .before .check-sources .ensures) ∙ ap packedToAnswer (c .before .before .before .before .before .before .before .before .before .before .before .checked .given .1) in
+    let i = checked-planes (a .width) (a .height) (fourChannels (a .layout) (a .r .now) (a .g .now) (a .b .now) (a .a .now)) (c .before .before .before .before .before .before .before .before .before .before .before .checked .given .0 .0) e in
+    let n = checked-count (a .width) (a .height) (fourChannels (a .layout) (a .r .now) (a .g .now) (a .b .now) (a .a .now)) (c .before .before .before .before .before .before .before .before .before .before .before .checked .given .0 .0) e in
+    let put = write-alpha-first (samplesOf (a .layout) A (a .a .now)) (threeChannels (a .layout) (a .r .now) (a .g .now) (a .b .now)) (a .dst .now) _ _ (c .before .before .before .before .before .before .before .before .before .before .before .checked .given .0 .0) (omega (arith, i .1 .0)) (omega arith) (c .before .before .before .before .before .before .write-plane .ensures) (c .before .before .write-colors .ensures) in
+    packs-raw (a .rle) (a .width) (a .height) (fourChannels (a .layout) (a .r .now) (a .g .now) (a .b .now) (a .a .now)) (a .dst .now) (c .before .before .before .before .before .before .before .before .before .before .before .checked .given .0 .0) e 4 refl (c .before .before .before .before .before .before .before .before .before .if1 .left) _ (omega arith) put
 
 pub encode-four-spec : {M : Type 1} → statement M
 encode-four-spec =
     tie.close
     (tie.spec
     check-sources-requires
-    enum-known-tested
+    enum-known-checked
     enum-told
     returns
     compress-next-plane-requires

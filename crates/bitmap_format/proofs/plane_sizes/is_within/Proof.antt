@@ -1,4 +1,4 @@
--- `is_within`: each answer from the tests that led to it. Assumes nothing.
+-- `is_within`: each answer from the comparisons that led to it. Assumes nothing.
 use mathlib.Core.Path.{sym}
 use mathlib.Core.Bool.{Bool, true, false}
 use Prim.Native.Nat.{ℕ}

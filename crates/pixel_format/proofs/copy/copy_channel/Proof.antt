@@ -12,10 +12,10 @@ use Rattle.pixel_format.proofs.copy.copy_channel.Statement.{statement}
 use Rattle.pixel_format.proofs.copy.copy_channel.Tie as tie
 
 abbrev Inv-loop : tie.InvT-loop
-Inv-loop pixels place from n dst₀ i₀ dst i = (i ≤ n) × ((length dst ≡ length dst₀) × (dst ≡ overwrite dst₀ (take i (drop from (strided 4 place (length pixels / 4) pixels)))))
+Inv-loop pixels offset from n dst₀ i₀ dst i = (i ≤ n) × ((length dst ≡ length dst₀) × (dst ≡ overwrite dst₀ (take i (drop from (strided 4 offset (length pixels / 4) pixels)))))
 
 abbrev μ-loop : tie.MeasureT-loop
-μ-loop pixels place from n dst₀ i₀ dst i = n - i
+μ-loop pixels offset from n dst₀ i₀ dst i = n - i
 
 loop-holds : tie.Need-loop-holds Inv-loop μ-loop
 loop-holds c = (omega arith, (refl, sym (overwrite-nil _)))
@@ -40,8 +40,8 @@ loop-again c =
     let f = c .before .before .copy-four in
     let l = c .before .before .before .before .before .loop in
     let a = c .before .before .before .before .before .before .before .before .args in
-    let s = strided 4 (a .place) (length (a .pixels .now) / 4) (a .pixels .now) in
-    let n = length-strided 4 (a .place) (length (a .pixels .now) / 4) (a .pixels .now) in
+    let s = strided 4 (a .offset) (length (a .pixels .now) / 4) (a .pixels .now) in
+    let n = length-strided 4 (a .offset) (length (a .pixels .now) / 4) (a .pixels .now) in
     (omega arith, (omega arith, overwrite-part (a .dst .now) (l .dst) (f .last .1 .1 .1 .0) s (a .from) (l .i) 4 (omega arith) (l .inv .1 .1) (f .ensures)))
 
 add-copy-rest : tie.Need-add-copy-rest Inv-loop μ-loop
@@ -61,8 +61,8 @@ returns c =
     let f = c .before .before .copy-rest in
     let l = c .before .before .before .before .before .loop in
     let a = c .before .before .before .before .before .before .before .before .args in
-    let s = strided 4 (a .place) (length (a .pixels .now) / 4) (a .pixels .now) in
-    let n = length-strided 4 (a .place) (length (a .pixels .now) / 4) (a .pixels .now) in
+    let s = strided 4 (a .offset) (length (a .pixels .now) / 4) (a .pixels .now) in
+    let n = length-strided 4 (a .offset) (length (a .pixels .now) / 4) (a .pixels .now) in
     let all : l .i + (a .n - l .i) ≡ a .n = omega arith in
     overwrite-part (a .dst .now) (l .dst) (f .last .1 .1 .1 .1 .0) s (a .from) (l .i) (a .n - l .i) (omega arith) (l .inv .1 .1) (f .ensures)
     ∙ ap (λ (k : ℕ). overwrite (a .dst .now) (take k (drop (a .from) s))) all

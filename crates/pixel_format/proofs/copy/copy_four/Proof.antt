@@ -71,14 +71,14 @@ returns : tie.Need-returns
 returns c =
     let a = c .before .before .before .before .args in
     let m = length (a .pixels .now) / 4 in
-    let s = strided 4 (a .place) m (a .pixels .now) in
-    let n = length-strided 4 (a .place) m (a .pixels .now) in
-    let is = strided-at 4 (a .place) m (a .pixels .now) in
+    let s = strided 4 (a .offset) m (a .pixels .now) in
+    let n = length-strided 4 (a .offset) m (a .pixels .now) in
+    let is = strided-at 4 (a .offset) m (a .pixels .now) in
     write-four (a .dst .now) s (a .from) (a .at) _ _ _ _ (omega arith) (omega arith)
     (is (a .from) _ (omega arith) refl)
-    (is (a .from + 1) (a .from * 4 + a .place + 4) (omega arith) (omega arith))
-    (is (a .from + 2) (a .from * 4 + a .place + 8) (omega arith) (omega arith))
-    (is (a .from + 3) (a .from * 4 + a .place + 12) (omega arith) (omega arith))
+    (is (a .from + 1) (a .from * 4 + a .offset + 4) (omega arith) (omega arith))
+    (is (a .from + 2) (a .from * 4 + a .offset + 8) (omega arith) (omega arith))
+    (is (a .from + 3) (a .from * 4 + a .offset + 12) (omega arith) (omega arith))
 
 pub copy-four-spec : {M : Type 1} → statement M
 copy-four-spec =

@@ -11,10 +11,10 @@ use Rattle.pixel_format.proofs.copy.copy_rest.Statement.{statement}
 use Rattle.pixel_format.proofs.copy.copy_rest.Tie as tie
 
 abbrev Inv-loop : tie.InvT-loop
-Inv-loop pixels place from n dst₀ at i₀ dst i = (i ≤ n) × ((length dst ≡ length dst₀) × (dst ≡ writeAt dst₀ at (take i (drop from (strided 4 place (length pixels / 4) pixels)))))
+Inv-loop pixels offset from n dst₀ at i₀ dst i = (i ≤ n) × ((length dst ≡ length dst₀) × (dst ≡ writeAt dst₀ at (take i (drop from (strided 4 offset (length pixels / 4) pixels)))))
 
 abbrev μ-loop : tie.MeasureT-loop
-μ-loop pixels place from n dst₀ at i₀ dst i = n - i
+μ-loop pixels offset from n dst₀ at i₀ dst i = n - i
 
 loop-holds : tie.Need-loop-holds Inv-loop μ-loop
 loop-holds c = (omega arith, (refl, sym (writeAt-nil _ _)))
@@ -48,13 +48,13 @@ loop-again c =
     let l = c .before .before .loop in
     let a = c .before .before .before .args in
     let m = length (a .pixels .now) / 4 in
-    let s = strided 4 (a .place) m (a .pixels .now) in
-    let n = length-strided 4 (a .place) m (a .pixels .now) in (
+    let s = strided 4 (a .offset) m (a .pixels .now) in
+    let n = length-strided 4 (a .offset) m (a .pixels .now) in (
       omega arith,
       (
         simp length-set (omega arith),
         copy-step (a .dst .now) (l .dst) s (a .from) (a .at) (l .i) (a .at + l .i) _ (l .inv .1 .1) refl (omega arith) (omega arith)
-            (strided-at 4 (a .place) m (a .pixels .now) (a .from + l .i) _ (omega arith) refl),
+            (strided-at 4 (a .offset) m (a .pixels .now) (a .from + l .i) _ (omega arith) refl),
       ),
     )
 
@@ -66,7 +66,7 @@ returns c =
     let a = c .before .before .args in
     let l = c .before .loop in
     let all : l .i ≡ a .n = omega arith in
-    l .inv .1 .1 ∙ ap (λ (k : ℕ). writeAt (a .dst .now) (a .at) (take k (drop (a .from) (strided 4 (a .place) (length (a .pixels .now) / 4) (a .pixels .now))))) all
+    l .inv .1 .1 ∙ ap (λ (k : ℕ). writeAt (a .dst .now) (a .at) (take k (drop (a .from) (strided 4 (a .offset) (length (a .pixels .now) / 4) (a .pixels .now))))) all
 
 pub copy-rest-spec : {M : Type 1} → statement M
 copy-rest-spec =
