@@ -37,11 +37,11 @@ module _ (planes : List ℕ) (width height row first second third : ℕ) where
       (rgb (suffix-sample planes first (firstPlane width height) row (e₁ ∙ sym (zero-add (row * width))) column i) (suffix-sample planes second (secondPlane false width height) row e₂ column i)
       (suffix-sample planes third (thirdPlane false width height) row e₃ column i)))
 
-  pub aycocg-row-is : (alpha : Bool) (level : ℕ) (s : Bool) (cw ch place : ℕ) → cw ≡ chromaSide s width → ch ≡ chromaSide s height → place ≡ chromaIndex s row
-      → first ≡ row * width → second ≡ width * height + place * cw → third ≡ width * height + cw * ch + place * cw
+  pub aycocg-row-is : (alpha : Bool) (level : ℕ) (s : Bool) (cw ch chroma-row : ℕ) → cw ≡ chromaSide s width → ch ≡ chromaSide s height → chroma-row ≡ chromaIndex s row
+      → first ≡ row * width → second ≡ width * height + chroma-row * cw → third ≡ width * height + cw * ch + chroma-row * cw
       → aycocgRow alpha level s (suffix planes first) (suffix planes second) (suffix planes third) width ≡ imageRow (AYCoCg level s) alpha width height planes row
   unfolding imageRow colourAt firstPlane secondPlane thirdPlane
-  aycocg-row-is alpha level s cw ch place ew eh ep e₁ e₂ e₃ =
+  aycocg-row-is alpha level s cw ch chroma-row ew eh ep e₁ e₂ e₃ =
       let p₁ : first ≡ 0 + row * width = e₁ ∙ sym (zero-add (row * width)) in
       let p₂ : second ≡ width * height + chromaIndex s row * chromaSide s width = e₂ ∙ (λ i. width * height + ep i * ew i) in
       let p₃ : third ≡ width * height + chromaSide s width * chromaSide s height + chromaIndex s row * chromaSide s width =
@@ -71,10 +71,10 @@ pub record Areas (width height cw ch len : ℕ) : Type 0 where
   pub chroma-most : cw * ch ≤ 67108864
   pub all : width * height + 2 * (cw * ch) ≤ len
 
--- and of a row, whose chroma row is `place`
-pub record Rooms (width height row cw ch place len : ℕ) : Type 0 where
+-- and of a row, whose chroma row is `chroma-row`
+pub record Rooms (width height row cw ch chroma-row len : ℕ) : Type 0 where
   pub luma : row * width + width ≤ width * height
-  pub chroma : place * cw + cw ≤ cw * ch
+  pub chroma : chroma-row * cw + cw ≤ cw * ch
   pub full-most : width * height ≤ 67108864
   pub chroma-most : cw * ch ≤ 67108864
   pub all : width * height + 2 * (cw * ch) ≤ len
@@ -88,12 +88,12 @@ module _ (s : Bool) (width height cw ch len : ℕ) (lw : width ≤ 8192) (lh : h
     all = rw (ew, eh) (rw (colour-sum-sides false s width height) at l);
   }
 
-  pub rooms : (row place : ℕ) → row < height → place ≡ chromaIndex s row → Rooms width height row cw ch place len
-  rooms row place lr ep =
-      let below : place < ch = rw (ep, eh) (chromaIndex-below s row height lr) in
+  pub rooms : (row chroma-row : ℕ) → row < height → chroma-row ≡ chromaIndex s row → Rooms width height row cw ch chroma-row len
+  rooms row chroma-row lr ep =
+      let below : chroma-row < ch = rw (ep, eh) (chromaIndex-below s row height lr) in
       record {
         luma = row-within row width height lr;
-        chroma = row-within place cw ch below;
+        chroma = row-within chroma-row cw ch below;
         full-most = areas .full-most;
         chroma-most = areas .chroma-most;
         all = areas .all;

@@ -42,10 +42,10 @@ module _ (header : BitmapStreamHeader) (w h : ℕ) (body work image : List ℕ) 
 -- ---- what a picture does not change
 
 -- no refusal changes the image (FORMAT 8.3)
-pub image-untouched : (header : BitmapStreamHeader) (w h : ℕ) (body work image : List ℕ) (r : ℕ) → unpackPicture header w h body work image .answer ≡ refused r
+pub image-unchanged : (header : BitmapStreamHeader) (w h : ℕ) (body work image : List ℕ) (r : ℕ) → unpackPicture header w h body work image .answer ≡ refused r
     → unpackPicture header w h body work image .image ≡ image
 unfolding unpackRle unpackRaw writeImage imageFromWork
-image-untouched header w h body work image r e = by-checks (checkPicture header w h (length body) (length work) (length image)) refl
+image-unchanged header w h body work image r e = by-checks (checkPicture header w h (length body) (length work) (length image)) refl
   where
     planes : (work : List ℕ) (a : Answer) → imageFromWork header w h work image a .answer ≡ refused r → imageFromWork header w h work image a .image ≡ image
     planes work (counted n) e = refused-not-counted (sym e)
@@ -64,9 +64,9 @@ image-untouched header w h body work image r e = by-checks (checkPicture header 
     by-checks (counted n) et = read n et (header .«enable_rle_compression») refl
 
 -- a raw picture does not change the work area (FORMAT 2.5)
-pub work-untouched : (header : BitmapStreamHeader) (w h : ℕ) (body work image : List ℕ) → header .«enable_rle_compression» ≡ false → unpackPicture header w h body work image .work ≡ work
+pub work-unchanged : (header : BitmapStreamHeader) (w h : ℕ) (body work image : List ℕ) → header .«enable_rle_compression» ≡ false → unpackPicture header w h body work image .work ≡ work
 unfolding unpackRaw writeImage
-work-untouched header w h body work image eb = by-checks (checkPicture header w h (length body) (length work) (length image)) refl
+work-unchanged header w h body work image eb = by-checks (checkPicture header w h (length body) (length work) (length image)) refl
   where
     by-checks : (a : Answer) → checkPicture header w h (length body) (length work) (length image) ≡ a → unpackPicture header w h body work image .work ≡ work
     by-checks (refused q) et = ap (λ (p : PictureOutcome). p .work) (unpackPicture-refused header w h body work image q et)

@@ -61,7 +61,7 @@ module _ (header : BitmapStreamHeader) (w h body work image : ℕ) where
           pub all-passed : min-image ≤ image → counted min-image ≡ checksAfterSides
           all-passed l = ap counted ei ∙ sym (work-passed ∙ check-passes _ [] passedAnswer (le-ltb image (imageSize w h) (rw ei at l)) ∙ no-checks passedAnswer)
 
--- ---- where all are passed, what is known of the slices
+-- ---- what is known of the slices once all checks passed
 pub record ChecksPassed (header : BitmapStreamHeader) (w h body work image n : ℕ) : Type 0 where
   pub width-most : w ≤ 8192
   pub height-most : h ≤ 8192

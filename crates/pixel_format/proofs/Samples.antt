@@ -1,4 +1,4 @@
--- The samples of a channel: how many there are, and where each stands.
+-- The samples of a channel: their number, and the index of each.
 use mathlib.Core.Path.{_≡_, refl, sym, ap, _∙_}
 use mathlib.Core.Logic.{⊎-elim}
 use mathlib.Core.List.{List, [], _∷_}
@@ -25,7 +25,7 @@ pub length-channel : (p : ChannelOffsets) (c : Channel) (pixels : List ℕ) → 
 unfolding channel
 length-channel p c pixels = length-strided (p .stride) (offsetOf p c) (length pixels / p .stride) pixels
 
--- sample i stands in pixel i
+-- sample i is in pixel i
 pub getD-strided : (stride offset n : ℕ) (d : List ℕ) (i : ℕ) → i < n → getD (strided stride offset n d) i 0 ≡ getD d (i * stride + offset) 0
 unfolding strided
 getD-strided stride offset zero d i h = absurd (omega arith)
@@ -42,7 +42,7 @@ getD-strided stride offset (suc n) d i h =
 pub strided-at : (stride offset n : ℕ) (d : List ℕ) (i k : ℕ) → i < n → k ≡ i * stride + offset → getD d k 0 ≡ getD (strided stride offset n d) i 0
 strided-at stride offset n d i k h e = ap (λ (m : ℕ). getD d m 0) e ∙ sym (getD-strided stride offset n d i h)
 
--- ---- a read that asks for more than there are
+-- ---- a read that asks for more samples than there are
 
 -- none are left
 pub read-past-end : (d s : List ℕ) (from : ℕ) → length s ≤ from → d ≡ overwrite d (take (length d) (drop from s))

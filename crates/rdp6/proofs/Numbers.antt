@@ -1,4 +1,4 @@
--- The numbers that C is given fit 64 bits. Assumes nothing.
+-- The numbers that a C function returns fit 64 bits. Assumes nothing.
 use mathlib.Core.Path.{_≡_, refl, sym, ap, _∙_}
 use mathlib.Core.Bool.{Bool}
 use mathlib.Core.List.{List}

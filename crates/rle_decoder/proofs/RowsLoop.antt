@@ -19,7 +19,7 @@ use Rattle.rle_format.proofs.Row.{rowFrom}
 use Rattle.rle_decoder.specs.Rows.{codedRow, rowsBelow}
 use Rattle.rle_format.proofs.Plane.{RowFull, row-full, row-stopped, rows-zero}
 
--- the invariant: d₀ is the slice on entry and d the slice now, `above` the place of the last row that is finished, `left`
+-- the invariant: d₀ is the slice on entry and d the slice now, `above` the index of the last row that is finished, `left`
 -- the rows still to read
 pub record RowsInvariant (src d₀ d : List ℕ) (w n from at above left : ℕ) : Type 0 where
   pub len : length d ≡ length d₀
@@ -59,7 +59,7 @@ module _ (src d₀ d : List ℕ) (w n from at above : ℕ) where
     fits : above + w + w + k * w ≤ length d₀
     fits = omega (arith, h .room, suc-mul k w)
 
-    -- the slice when the row's part is back
+    -- the slice after the call that got the row's part
     coded : replaceSuffix d (above + w) ys ≡ writeAt d (above + w) (codedRow src at w .written)
     coded = suffix-overwrite d ys (codedRow src at w .written) (above + w) wrote
 

@@ -17,7 +17,7 @@ use Rattle.rle_encoder.specs.CodeRow.{codeRow}
 use Rattle.rle_format.specs.Written.{answerAt, sliceAt}
 use Rattle.rle_format.proofs.WriteLoop.{Wrote}
 
--- ---- rows from the top, and rows from row r on
+-- ---- the first rows, and rows from row r on
 
 -- the segments of k rows from row r on
 unfoldable pub segmentsFromRow : (width : ℕ) (samples : List ℕ) (r k : ℕ) → List Segment
@@ -87,7 +87,7 @@ length-rowAt : (width : ℕ) (samples : List ℕ) (r : ℕ) → r * width + widt
 unfolding rowAt
 length-rowAt width samples r h = length-take-le width (drop (r * width) samples) (omega (arith, length-drop (r * width) samples))
 
--- samples that fill the places that they are read into
+-- samples that fill the slice that they are read into
 read-row : (width : ℕ) (samples : List ℕ) (r : ℕ) (d got : List ℕ) → length d ≡ width → r * width + width ≤ length samples
     → got ≡ overwrite d (take (length d) (drop (r * width) samples)) → got ≡ rowAt width samples r
 unfolding rowAt
@@ -120,14 +120,14 @@ codeRow-codesAt width samples (suc r) above h =
     let e : suc r - 1 ≡ r = omega arith in
     ap (λ (l : List ℕ). zipWith deltaCode l (rowAt width samples (suc r))) (h (omega arith) ∙ ap (rowAt width samples) e)
 
--- two arrays of n places after row r was read and coded
+-- two arrays of n bytes after row r was read and coded
 pub record RowCoded (width n : ℕ) (samples : List ℕ) (r : ℕ) (above codes : List ℕ) : Type 0 where
   pub row : arrayPrefix codes width ≡ codesAt width samples r
   pub kept : HasRowAbove width samples (r + 1) above
   pub len-above : length above ≡ n
   pub len-codes : length codes ≡ n
 
--- they are so where `got` was read into the codes' places, and then `new` was left there and `sampled` in those above
+-- that holds if `got` was read into the first array, which then became `new`, and the second became `sampled`
 pub row-coded : (width n : ℕ) (samples : List ℕ) (r : ℕ) (above codes got new sampled : List ℕ) → width ≤ n → length above ≡ n → length codes ≡ n
     → r * width + width ≤ length samples → HasRowAbove width samples r above
     → got ≡ overwrite (arrayPrefix codes width) (take (length (arrayPrefix codes width)) (drop (r * width) samples))

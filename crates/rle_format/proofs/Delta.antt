@@ -30,7 +30,7 @@ pub undoDelta-deltaCode : (above value : ℕ) → above < 256 → value < 256 �
 unfolding undoDelta deltaCode difference
 undoDelta-deltaCode above value ha hv = rw (differenceFromCode-code ((value + 256 - above) % 256) (omega arith)) (omega arith)
 
--- the difference, by the wrapping subtraction: what is added to the upper byte to get the lower
+-- the difference, by the wrapping subtraction: what is added to the sample above to get the sample
 difference-unique : (above value d : ℕ) → above < 256 → d < 256 → (d + above) % 256 ≡ value → difference above value ≡ d
 unfolding difference
 difference-unique above value d h k e = omega arith
@@ -69,7 +69,7 @@ getD-zipWith f (x ∷ xs) (y ∷ ys) (suc i) h k = getD-zipWith f xs ys i (omega
 
 -- ---- the second row of a slice, restored in place by the first
 
--- the samples of the second row of d, w wide, whose codes stand below the first
+-- the samples of the second row of d, w wide, from its codes and the first row
 unfoldable pub restoredRow : (d : List ℕ) (w : ℕ) → List ℕ
 restoredRow d w = zipWith undoDelta (take w d) (take w (drop w d))
 

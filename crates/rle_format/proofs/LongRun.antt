@@ -1,4 +1,4 @@
--- `encode_long_sequence`: its segments are encodable, and stand for the run.
+-- `encode_long_sequence`: its segments are encodable, and their values are the run.
 use mathlib.Core.Path.{_≡_, refl, ap, _∙_}
 use mathlib.Core.Logic.{inl, inr, ⊎-elim}
 use mathlib.Core.List.{append-nil}

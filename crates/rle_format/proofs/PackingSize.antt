@@ -13,7 +13,7 @@ use Rattle.rle_format.proofs.Writing.{length-segmentsBytes}
 use Rattle.rle_format.proofs.ReadBack.{encodable-not-empty}
 use Rattle.rle_format.proofs.RowSegments.{rowSegments-encodable, rowSegments-count}
 
--- each segment stands for a value at least, and its raw bytes are values
+-- each segment has at least one value, and its raw bytes are values
 encodable-size : (ss : List Segment) → AllEncodable ss → length (segmentsBytes ss) ≤ 2 * segmentsCount ss
 encodable-size [] v = omega arith
 encodable-size (s ∷ ss) v = omega (arith, length-segmentsBytes s ss, encodable-not-empty s (v .0), encodable-size ss (v .1))

@@ -1,4 +1,4 @@
--- The segments of a row are encodable, and stand for its coded values.
+-- The segments of a row are encodable, and their values are its coded values.
 use mathlib.Core.Path.{_≡_, refl, sym, ap, _∙_}
 use mathlib.Core.Logic.{⊎-elim}
 use mathlib.Core.List.{List, [], _∷_, _++_, append-assoc, append-nil}

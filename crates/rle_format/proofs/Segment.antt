@@ -14,7 +14,7 @@ use Rattle.rle_format.specs.Choice.{choose}
 use Rattle.rle_format.proofs.Cases.{eq-or-ne}
 use Rattle.rle_format.specs.Segment.{Segment, lastOr, segmentValues, valueCount, segmentSize, rawCount, runLength, segment, refused-segment, readSegment}
 
--- what a control byte says, by its low four bits
+-- the fields of a control byte, by its low four bits
 module _ (c : ℕ) where
   pub control-run-1 : c % 16 ≡ 1 → (0 ≡ rawCount c) × (16 + c / 16 ≡ runLength c)
   unfolding rawCount runLength
@@ -29,7 +29,7 @@ module _ (c : ℕ) where
     unfolding rawCount runLength
     control-plain not-two = rw (ne-eqb (c % 16) 1 not-one, ne-eqb (c % 16) 2 not-two) (refl, refl)
 
--- a control byte that is not 0 stands for one value at least, and for 47 at most; 15 of them at most are raw bytes
+-- a control byte that is not 0 gives at least one value and at most 47, of which at most 15 are raw bytes
 pub record ControlBounds (c : ℕ) : Type 0 where
   pub some : (c ≡ 0 → ⊥) → 1 ≤ rawCount c + runLength c
   pub few : c < 256 → rawCount c + runLength c ≤ 47
@@ -44,8 +44,8 @@ control-bounds c =
     (eq-or-ne (c % 16) 2))
     (eq-or-ne (c % 16) 1)
 
--- what is known of a segment that was read: it lies within the body, its raw bytes stand behind the control byte, and it
--- stands for one value at least
+-- what is known of a segment that was read: it lies within the body, its raw bytes follow the control byte, and it
+-- has at least one value
 pub record SegmentFacts (body : List ℕ) (s : Segment) : Type 0 where
   pub fits : segmentSize s ≤ length body
   pub raw-is : s .raw ≡ take (length (s .raw)) (drop 1 body)
@@ -94,7 +94,7 @@ segment-refusals (c ∷ rest) r e = go (eqb c 0) (ltb (length rest) (rawCount c)
 
 -- ---- what is at an index of the body
 
--- the segment that the control byte at an index says
+-- the segment that the control byte at an index gives
 abbrev pub segmentAt : (s : List ℕ) (at : ℕ) → Segment
 segmentAt s at = record { raw = take (rawCount (getD s at 0)) (drop (at + 1) s); run = runLength (getD s at 0) }
 

@@ -1,4 +1,4 @@
--- Segments one after the other: what they stand for together, and their bytes.
+-- Segments one after the other: their values together, and their bytes.
 use mathlib.Core.Path.{_≡_, refl, sym}
 use mathlib.Core.List.{List, [], _∷_, _++_, append-assoc}
 use Prim.Native.Nat.{ℕ, _+_}

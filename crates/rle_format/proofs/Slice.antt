@@ -17,7 +17,7 @@ pub overwrite-nil : (d : List ℕ) → overwrite d [] ≡ d
 unfolding overwrite
 overwrite-nil d = refl
 
--- all places overwritten
+-- all bytes overwritten
 pub overwrite-all : (d vs : List ℕ) → length d ≤ length vs → overwrite d vs ≡ vs
 unfolding overwrite
 overwrite-all d vs h = ap (λ (l : List ℕ). vs ++ l) (drop-of-length-le d {i = length vs} h) ∙ append-nil vs
@@ -66,7 +66,7 @@ writeAt-snoc d at vs v h =
 
 -- ---- what was copied, and an iteration of the loop that fills
 
--- all of s copied to the first places, as the contract of `bytes::copy` states it
+-- all of s copied to the start, as the contract of `bytes::copy` states it
 pub copied-overwrite : (d s now : List ℕ) → now ≡ take (length s) s ++ drop (length s) d → now ≡ overwrite d s
 unfolding overwrite
 copied-overwrite d s now e = e ∙ ap (λ (l : List ℕ). l ++ drop (length s) d) (take-all (length s) s (omega arith))
@@ -88,7 +88,7 @@ writeAt-append d one two xs ys at n l fits e₁ e₂ =
 
 -- ---- reads of what a write left
 
--- before the place that was written
+-- before the index that was written
 pub getD-writeAt-before : (d : List ℕ) (at i : ℕ) (vs : List ℕ) → i < at → at ≤ length d → getD (writeAt d at vs) i 0 ≡ getD d i 0
 unfolding writeAt
 getD-writeAt-before d at i vs h l =
@@ -133,7 +133,7 @@ suffix-overwrite d ys vs a e =
     replaceSuffix-append d ys a
     ∙ ap (λ (l : List ℕ). take a d ++ l) (e ∙ ap (λ (l : List ℕ). vs ++ drop (length vs) l) (suffix-drop d a) ∙ ap (λ (l : List ℕ). vs ++ l) (drop-drop (length vs) a d))
 
--- what it wrote from its place k on
+-- what it wrote from its index k on
 pub suffix-writeAt : (d ys vs : List ℕ) (a k : ℕ) → ys ≡ writeAt (suffix d a) k vs → replaceSuffix d a ys ≡ writeAt d (a + k) vs
 unfolding writeAt
 suffix-writeAt d ys vs a k e =
@@ -156,7 +156,7 @@ part-overwrite d ys vs a b h k n e =
 
 -- ---- more of writes
 
--- the slice enters a write by what stands before and after it
+-- a write depends on the slice only by what is before and after it
 writeAt-cong : (d e : List ℕ) (at : ℕ) (vs : List ℕ) → take at d ≡ take at e → drop (at + length vs) d ≡ drop (at + length vs) e → writeAt d at vs ≡ writeAt e at vs
 unfolding writeAt
 writeAt-cong d e at vs p q = λ i. p i ++ (vs ++ q i)
@@ -165,7 +165,7 @@ pub take-writeAt-before : (d : List ℕ) (at : ℕ) (vs : List ℕ) → at ≤ l
 unfolding writeAt
 take-writeAt-before d at vs h = take-at (take at d) (vs ++ drop (at + length vs) d) at (simp length-take (omega arith))
 
--- a write over a write of as many or fewer
+-- a write over a write of as many bytes or fewer
 pub writeAt-twice : (d : List ℕ) (at : ℕ) (vs ws : List ℕ) → at + length vs ≤ length d → length vs ≤ length ws → writeAt (writeAt d at vs) at ws ≡ writeAt d at ws
 writeAt-twice d at vs ws fits h =
     let more : at + length ws ≡ at + length vs + (length ws - length vs) = omega arith in
@@ -198,7 +198,7 @@ writeAt-two-ends d one two s at k from n h fits e₁ e₂ =
     ∙ ap (λ (l : List ℕ). writeAt d at (xs ++ l)) all
     ∙ ap (writeAt d at) (take-append-drop from s)
 
--- the first places written twice, the second time as many or more
+-- the start written twice, the second time as many bytes or more
 pub overwrite-twice : (d vs ws : List ℕ) → length vs ≤ length ws → overwrite (overwrite d vs) ws ≡ overwrite d ws
 unfolding overwrite
 overwrite-twice d vs ws h =
@@ -214,7 +214,7 @@ take-drop-swap l zero w = ap (λ (k : ℕ). take k l) (sym (zero-add w))
 take-drop-swap [] (suc a) w = take-nil w ∙ sym (ap (drop (suc a)) (take-nil (suc a + w)))
 take-drop-swap (x ∷ l) (suc a) w = take-drop-swap l a w ∙ sym (ap (λ (k : ℕ). drop (suc a) (take k (x ∷ l))) (suc-add a w))
 
--- what a write left from its place on
+-- what a write left from its index on
 pub drop-writeAt-at : (d : List ℕ) (at : ℕ) (vs : List ℕ) → at ≤ length d → drop at (writeAt d at vs) ≡ vs ++ drop (at + length vs) d
 unfolding writeAt
 drop-writeAt-at d at vs h = drop-at (take at d) (vs ++ drop (at + length vs) d) at (simp length-take (omega arith))
@@ -228,7 +228,7 @@ writeAt-overwrite d₀ d at vs h e =
     sym (drop-drop (length vs) at d) ∙ ap (drop (length vs)) e ∙ drop-drop (length vs) at d₀ ∙ rw n in
     ap (λ (l : List ℕ). take at d ++ (vs ++ l)) back ∙ sym (append-assoc (take at d) vs (drop (length (take at d ++ vs)) d₀))
 
--- a write right after the first places that were written
+-- a write right after the start that was written
 pub overwrite-append : (d xs ys : List ℕ) (n : ℕ) → length xs ≡ n → writeAt (overwrite d xs) n ys ≡ overwrite d (xs ++ ys)
 unfolding overwrite writeAt
 overwrite-append d xs ys n l =
@@ -240,14 +240,14 @@ overwrite-append d xs ys n l =
     ∙ ap (λ (k : ℕ). drop k d) (sym (length-append xs ys)) in
     (λ i. front i ++ (ys ++ back i)) ∙ sym (append-assoc xs ys (drop (length (xs ++ ys)) d))
 
--- a write from the first place on
+-- a write from index 0 on
 pub writeAt-0 : (d vs : List ℕ) → writeAt d 0 vs ≡ overwrite d vs
 unfolding overwrite writeAt
 writeAt-0 d vs = ap (λ (k : ℕ). vs ++ drop k d) (zero-add (length vs))
 
 -- ---- bytes copied one by one, from index `from` of a list
 
--- one more, to the place behind those that were copied to index `at` on
+-- one more byte, behind those that were copied to index `at` on
 pub copy-step : (d now s : List ℕ) (from at i to v : ℕ) → now ≡ writeAt d at (take i (drop from s)) → to ≡ at + i → from + i < length s → at + i < length d
     → v ≡ getD s (from + i) 0 → set now to v ≡ writeAt d at (take (i + 1) (drop from s))
 copy-step d now s from at i to v e p h k is =
@@ -282,7 +282,7 @@ write-four d s from at v₀ v₁ v₂ v₃ h k e₀ e₁ e₂ e₃ =
     let three = copy-step d _ s from at 2 (at + 2) v₂ two refl (omega arith) (omega arith) e₂ in
     copy-step d _ s from at 3 (at + 3) v₃ three refl (omega arith) (omega arith) e₃
 
--- k bytes of s, p, copied to an array of as many places, which is then q; and from there to the part of d from `at` on. As the contract of the
+-- p, k bytes of s, copied to an array of k bytes, which is then q, and from there to d from `at` on. In the form of the contract of the
 -- kit's `bytes::copy`
 pub copied-through-array : (d s p q got left array : List ℕ) (from at k : ℕ) → from + k ≤ length s → length array ≡ k → p ≡ take k (drop from s)
     → got ≡ take (length p) p ++ drop (length p) array → q ≡ got → left ≡ take (length q) q ++ drop (length q) (suffix d at)

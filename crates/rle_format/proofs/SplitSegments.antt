@@ -1,4 +1,4 @@
--- `encode_segment`: its segments are encodable, and stand for the raw values and the run of the last of them.
+-- `encode_segment`: its segments are encodable, and their values are the raw values and the run of the last of them.
 use mathlib.Core.Path.{_≡_, refl, sym, ap, _∙_}
 use mathlib.Core.Logic.{inl}
 use mathlib.Core.List.{List, [], _∷_, _++_, append-assoc, append-nil}

@@ -38,12 +38,12 @@ module _ (ss : List Segment) (d : List ℕ) (at : ℕ) where
   unfolding sliceAt
   length-sliceAt h = length-writeAt d at (writeSegments ss (length d - at) .written) (omega (arith, write-within ss (length d - at)))
 
--- ---- what a call that was to write segments into d from `at` on answers and leaves
+-- ---- the answer of a call that writes segments into d from `at` on, and the slice after it
 
 abbrev pub Wrote : List Segment → (d now : List ℕ) (at : ℕ) → Packed → Type 0
 Wrote ss d now at r = (packedToAnswer r ≡ answerAt ss d at) × (now ≡ sliceAt ss d at)
 
--- where it answers an index, all segments fit, and the index stands behind them
+-- if the answer is an index, all segments fit, and the index is behind them
 record AllFit (ss : List Segment) (d : List ℕ) (at next : ℕ) : Type 0 where
   fits : length (segmentsBytes ss) ≤ length d - at
   place : next ≡ at + length (segmentsBytes ss)
@@ -55,7 +55,7 @@ all-fit ss d at next e =
     (λ h. let z : _≡_ {A = ℕ} 0 1 = cc (answerAt-no-room ss d at h) in absurd (omega arith))
     (le-or-gt (length (segmentsBytes ss)) (length d - at))
 
--- where it answers a refusal, they do not
+-- if it is a refusal, they do not
 not-all-fit : (ss : List Segment) (d : List ℕ) (at k : ℕ) → refused k ≡ answerAt ss d at → length d - at < length (segmentsBytes ss)
 not-all-fit ss d at k e =
     ⊎-elim
@@ -98,7 +98,7 @@ module _ (xs ys : List Segment) (d : List ℕ) (at : ℕ) (h : at ≤ length d) 
     unfolding sliceAt
     sliceAt-append-no-room = ap (λ (o : Outcome). writeAt d at (o .written)) (sym (write-append-no-room xs ys (length d - at) out))
 
--- ---- the head of a loop
+-- ---- the invariant of a loop
 
 -- writing `rest` into `now` from `to` on is what writing `whole` into d from `at` on is
 pub record WriteInvariant (whole rest : List Segment) (d now : List ℕ) (at to : ℕ) : Type 0 where
@@ -217,7 +217,7 @@ module _ (ss : List Segment) (d ys : List ℕ) (at : ℕ) (r : Packed) (answered
   pub part-within : (n : ℕ) → r ≡ Written n → n ≤ length d - at
   part-within n e = write-count-within ss (length d - at) n (ap packedToAnswer (sym e) ∙ answered ∙ ap (λ (k : ℕ). writeSegments ss k .answer) part-room)
 
--- ---- from the slice's first place on
+-- ---- from the start of the slice on
 
 module _ (ss : List Segment) (d : List ℕ) where
   answerAt-0 : answerAt ss d 0 ≡ writeSegments ss (length d) .answer

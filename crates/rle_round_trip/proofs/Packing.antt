@@ -1,4 +1,4 @@
--- The packing of the rows from the top down, one row more at a time.
+-- The packing of the rows from the first on, one row more at a time.
 use mathlib.Core.Path.{_≡_, refl, ap, _∙_}
 use mathlib.Core.Logic.{⊎-elim}
 use mathlib.Core.List.{List, [], _++_}
@@ -28,7 +28,7 @@ module _ (width : ℕ) (samples : List ℕ) where
   pub length-packing-step : (k : ℕ) → length (packing width (suc k) samples) ≡ length (packing width k samples) + length (rowPacking width samples k)
   length-packing-step k = ap length (packing-step k) ∙ length-append (packing width k samples) (rowPacking width samples k)
 
-  -- more rows, no fewer bytes
+  -- more rows have at least as many bytes
   pub packing-monotone : (k height : ℕ) → k ≤ height → length (packing width k samples) ≤ length (packing width height samples)
   packing-monotone k zero h = let e : k ≡ 0 = omega arith in rw e (omega arith)
   packing-monotone k (suc height) h =
@@ -49,7 +49,7 @@ module _ (width : ℕ) (samples : List ℕ) where
       (λ (at-end : height < k). let e : k ≡ suc height = omega arith in rw e)
       (le-or-gt k height)
 
-  -- where m is less than all, there is a next row
+  -- if m is less than all, there is a first incomplete row
   pub incomplete-row-exists : (m height : ℕ) → m < length (packing width height samples) → (r : ℕ) × (r < height) × FirstIncompleteRow width samples m r
   incomplete-row-exists m zero h = absurd (omega (arith, ap length packing-0))
   incomplete-row-exists m (suc height) h =

@@ -1,4 +1,4 @@
--- What the rows of a plane are when the first m bytes of its packing are unpacked: all of them, or those above the next row and a part of it.
+-- The rows of a plane when the first m bytes of its packing are unpacked: all of them, or the complete rows and a part of the next.
 use mathlib.Core.Path.{_≡_, refl, sym, ap, _∙_}
 use mathlib.Core.List.{List, _++_, append-nil}
 use mathlib.Core.Option.{none}

@@ -29,7 +29,7 @@ module _ (width height m : ℕ) (samples body dst : List ℕ) (plane : ValidPlan
   abbrev given : Answer
   given = unpackPlane width height (length dst) body .answer
 
-  -- the plane passes the tests at the entry
+  -- the plane passes the checks
   sides-and-room-pass : unpackPlane width height (length dst) body ≡ unpackRows width height none body
   sides-and-room-pass = plane-rows width height (length dst) body (omega (arith, plane)) (omega (arith, plane)) (plane .wide .1) (plane .high .1) room
 
@@ -40,7 +40,7 @@ module _ (width height m : ℕ) (samples body dst : List ℕ) (plane : ValidPlan
       ≡ record { written = take (r * width) samples ++ take (coveredInRow width samples r m) (codesAt width samples r); answer = refused 7 }
   truncated-outcome r h n = sides-and-room-pass ∙ unpack-truncated width height m samples body plane taken r h n
 
-  -- a row of which the samples are written keeps them, whatever is written behind
+  -- a row whose samples are written keeps them, whatever is written behind it
   row-kept : (r k : ℕ) → r < k → k ≤ height → (vs : List ℕ) → rowAt width (overwrite dst (take (k * width) samples ++ vs)) r ≡ rowAt width samples r
   unfolding overwrite
   row-kept r k h l vs =

@@ -1,4 +1,4 @@
--- The scan of a row by places in it. The raw values that are pending stand from `start` to `last`, the value after them stands at `last` and
+-- The scan of a row by its indices. The pending raw values are at `start` to `last`, the value after them is at `last` and
 -- is repeated from there up to i.
 use mathlib.Core.Path.{_≡_, refl, sym, ap, _∙_}
 use mathlib.Core.Logic.{⊎-elim}
@@ -60,7 +60,7 @@ rowEndSegments-run codes start last h = rw (le-leb 3 (length codes - last - 1) h
 pub rowEndSegments-raw : (codes : List ℕ) (start last : ℕ) → length codes - last - 1 < 3 → rowEndSegments codes start last ≡ splitSegments (drop start codes) 0
 rowEndSegments-raw codes start last h = rw (lt-leb 3 (length codes - last - 1) h)
 
--- ---- at a place of the scan
+-- ---- at an index of the scan
 
 module _ (codes : List ℕ) (start last i : ℕ) (at : Scanned codes start last i) where
   -- the value and its repeats, as a part of the row

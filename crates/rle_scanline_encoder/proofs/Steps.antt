@@ -17,7 +17,7 @@ use Rattle.rle_format.proofs.SegmentSteps.{longRun-step, longRun-1-to-3, longRu
 pub longRun-part : (last left part : ℕ) → 16 ≤ left → part ≡ min left 47 → longRun last left ≡ repeat part ∷ longRun last (left - part)
 longRun-part last left part h e = rw e (longRun-step last left h)
 
--- 1 to 15 remain: `encode_segment` gets that many raw bytes, and the rest as a run
+-- 1 to 15 remain: `encode_segment` gets the raw bytes that are due, and the rest as a run
 pub longRun-rest : (last left count : ℕ) → 1 ≤ left → left < 16 → (left < 4 → count ≡ left) × (4 ≤ left → count ≡ 1)
     → longRun last left ≡ splitSegments (take (count - 0) (last ∷ last ∷ last ∷ [])) (left - count)
 longRun-rest last left count h k is =

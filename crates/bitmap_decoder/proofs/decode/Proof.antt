@@ -1,4 +1,4 @@
--- `decode`: the tests' answer decides (bitmap_format's Picture.antt); where it is no refusal, the RLE or the raw picture. Assumes
+-- `decode`: the answer of the checks decides (bitmap_format's Picture.antt); where it is no refusal, the RLE or the raw picture. Assumes
 -- nothing.
 use Rattle.rle_format.specs.Answer.{number}
 use mathlib.Core.Path.{refl, sym, ap, _∙_}
@@ -11,7 +11,7 @@ use borrow.Author.Needs.{needs}
 use Rattle.bitmap_decoder.proofs.decode.Statement.{statement}
 use Rattle.bitmap_decoder.proofs.decode.Tie as tie
 
--- the tests were passed: what is known then
+-- what is known once the checks passed
 known : (k : tie.After-enum-told)
     → ChecksPassed (k .before .before .before .before .before .before .args .header) (k .before .before .before .before .before .before .args .width) (k .before .before .before .before .before .before .args .height) (length (k .before .before .before .before .before .before .args .body .now)) (length (k .before .before .before .before .before .before .args .work .now)) (length (k .before .before .before .before .before .before .args .image .now)) (k .enum-told .given .0 .0)
 known k = checks-passed _ _ _ _ _ _ _ (sym (k .before .before .first-refusal .ensures) ∙ ap decodedToAnswer (k .enum-told .given .1))

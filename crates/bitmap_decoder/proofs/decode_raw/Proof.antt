@@ -1,4 +1,4 @@
--- `decode_raw`: the planes stand in the body behind alpha. Assumes nothing.
+-- `decode_raw`: the planes follow alpha in the body. Assumes nothing.
 use mathlib.Core.Path.{_∙_}
 use Rattle.bitmap_decoder.proofs.Pictures.{raw-rows}
 use borrow.Author.Needs.{needs}

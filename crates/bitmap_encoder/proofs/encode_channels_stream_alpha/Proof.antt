@@ -1,4 +1,4 @@
--- `encode_channels_stream_alpha`: the count goes out with the header record. Assumes nothing.
+-- `encode_channels_stream_alpha`: the answer is the number of bytes with the header record. Assumes nothing.
 use mathlib.Core.Bool.{true}
 use Rattle.bitmap_format.specs.PackPicture.{headerToSend}
 use Rattle.bitmap_encoder.proofs.Pictures.{encoded-with-header}

@@ -1,4 +1,4 @@
--- `check_slices`: each return by the law of the test that led to it (bitmap_format's Tested.antt). Assumes nothing.
+-- `check_slices`: each return by the law of the check that led to it (bitmap_format's PictureChecks.antt). Assumes nothing.
 use mathlib.Core.Path.{_≡_, sym, _∙_}
 use Rattle.rle_format.proofs.Sides.{sides-allowed}
 use Rattle.bitmap_format.specs.Sizes.{minBodySize, workSize, imageSize}

@@ -1,4 +1,4 @@
--- `decoded_number`: a count as it is, a refusal below 0. Assumes nothing.
+-- `decoded_number`: a number of bytes as it is, a refusal as its negated number. Assumes nothing.
 use mathlib.Core.Path.{sym, ap, _∙_}
 use mir.Facts.{toZ-ofZ, toZ-pos}
 use mir.Val.{SFits}

@@ -1,4 +1,4 @@
--- `rdp6_work_size`: what the entry ensures, of the record that C's numbers stand for. Assumes nothing.
+-- `rdp6_work_size`: what the entry ensures, of the record that the numbers of the call mean. Assumes nothing.
 use Prim.Native.Nat.{ℕ}
 use mathlib.Core.Path.{ap, _∙_}
 use Rattle.rle_format.specs.Sides.{checkSides}

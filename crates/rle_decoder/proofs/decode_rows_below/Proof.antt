@@ -18,7 +18,7 @@ Inv-loop src from dst₀ width rows at₀ above₀ left₀ dst at above left = R
 abbrev μ-loop : tie.MeasureT-loop
 μ-loop src from dst₀ width rows at₀ above₀ left₀ dst at above left = left
 
--- in a turn a row is left, and there is room for it
+-- in an iteration a row is left, and there is room for it
 head : (c : tie.In-loop Inv-loop μ-loop)
     → RowsInvariant (c .before .before .before .before .args .src .now) (c .before .before .before .before .args .dst .now) (c .before .loop .dst) (c .before .before .before .before .args .width)
     (c .before .before .before .before .args .rows) (c .before .before .before .before .args .from) (c .before .loop .at) (c .before .loop .above) (suc (c .before .loop .left - 1))

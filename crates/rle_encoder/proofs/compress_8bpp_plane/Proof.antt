@@ -1,4 +1,4 @@
--- `compress_8bpp_plane`: a plane by itself is its own samples, so that it promises what `compress_8bpp_channel` does. Assumes nothing.
+-- `compress_8bpp_plane`: a plane by itself is its own samples, so that its contract is that of `compress_8bpp_channel`. Assumes nothing.
 use borrow.Author.Needs.{needs}
 use Rattle.rle_encoder.proofs.compress_8bpp_plane.Statement.{statement}
 use Rattle.rle_encoder.proofs.compress_8bpp_plane.Tie as tie

@@ -1,4 +1,4 @@
--- `encode`: the loop keeps that writing the rows from r on, from here on, is writing all rows, and that the row above is at hand. Assumes nothing.
+-- `encode`: invariant: writing the rows from r on from here on is writing all rows, and the second array has the row above. Assumes nothing.
 use Rattle.rle_format.specs.declared.Packed.the-variants.{Written}
 use mathlib.Core.Path.{_≡_, refl, _∙_}
 use Prim.Native.Nat.{_+_, _-_, _≤_}

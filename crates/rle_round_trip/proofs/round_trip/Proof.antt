@@ -1,4 +1,4 @@
--- `round_trip`: demand 3 of what was packed and unpacked. Assumes nothing.
+-- `round_trip`: the prefix theorem for the slices of the call. Assumes nothing.
 use mathlib.Core.Path.{refl, sym, ap, _∙_}
 use native.Mathlib.Omega.{arith}
 use Rattle.rle_format.specs.Answer.{packedToAnswer}

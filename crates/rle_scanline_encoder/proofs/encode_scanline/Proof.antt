@@ -1,4 +1,4 @@
--- `encode_scanline`: a row without values has no segments; any other is `encode_row`'s, from the slice's first place on. Assumes nothing.
+-- `encode_scanline`: a row without values has no segments; any other is `encode_row`'s, from the start of the slice on. Assumes nothing.
 use mathlib.Core.Path.{_≡_, refl, sym}
 use mathlib.Core.List.{List, [], _∷_}
 use Prim.Native.Nat.{ℕ}

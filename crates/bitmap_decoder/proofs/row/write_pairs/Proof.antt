@@ -1,4 +1,4 @@
--- `write_pairs`: an iteration of its loop is two pixels that share their chroma place; the invariant is `PixelInvariant` of PixelLoop.antt.
+-- `write_pairs`: an iteration of its loop is two pixels that share their chroma samples; the invariant is `PixelInvariant` of PixelLoop.antt.
 -- Assumes nothing.
 use Rattle.bitmap_decoder.proofs.PixelLoop.{pixels-pair-step, aycocgColumn-at, chromaIndex-even, chromaIndex-odd, PixelInvariant, pixels-start, pixels-end}
 use Prim.Native.Nat.{_+_, _-_, _*_, _≤_}

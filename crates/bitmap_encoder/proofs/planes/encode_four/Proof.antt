@@ -1,4 +1,4 @@
--- `encode_four`: by the tests, then by the form that was asked; alpha goes before the others. Assumes nothing.
+-- `encode_four`: by the checks, then RLE or raw; alpha goes before the others. Assumes nothing.
 use mathlib.Core.Path.{refl, sym, ap, _∙_}
 use native.Mathlib.Omega.{arith}
 use Rattle.rle_format.specs.Answer.{packedToAnswer}

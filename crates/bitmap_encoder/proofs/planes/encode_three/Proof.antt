@@ -1,4 +1,4 @@
--- `encode_three`: by the tests, then by the form that was asked. Assumes nothing.
+-- `encode_three`: by the checks, then RLE or raw. Assumes nothing.
 use mathlib.Core.Path.{refl, sym, ap, _∙_}
 use native.Mathlib.Omega.{arith}
 use Rattle.rle_format.specs.Answer.{packedToAnswer}

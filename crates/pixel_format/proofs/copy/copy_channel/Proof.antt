@@ -1,4 +1,4 @@
--- `copy_channel`: after each turn the samples of i pixels are copied, and then those that are left. Assumes nothing.
+-- `copy_channel`: after each iteration the samples of i pixels are copied, and then those that are left. Assumes nothing.
 use mathlib.Core.Path.{_≡_, refl, sym, ap, _∙_}
 use Prim.Native.Nat.{ℕ, _+_, _-_, _/_, _≤_}
 use native.Mathlib.Omega.{arith}

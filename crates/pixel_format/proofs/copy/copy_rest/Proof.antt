@@ -1,4 +1,4 @@
--- `copy_rest`: after i turns the samples of i pixels are copied. Assumes nothing.
+-- `copy_rest`: after i iterations the samples of i pixels are copied. Assumes nothing.
 use mathlib.Core.Path.{_≡_, refl, sym, ap, _∙_}
 use Prim.Native.Nat.{ℕ, _+_, _-_, _/_, _≤_}
 use native.Mathlib.Omega.{arith}

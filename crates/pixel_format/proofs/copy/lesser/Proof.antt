@@ -1,4 +1,4 @@
--- `least`: by which of the two is less. Assumes nothing.
+-- `lesser`: by which of the two is less. Assumes nothing.
 use native.Mathlib.Omega.{arith}
 use Rattle.pixel_format.proofs.copy.lesser.Statement.{statement}
 use Rattle.pixel_format.proofs.copy.lesser.Tie as tie

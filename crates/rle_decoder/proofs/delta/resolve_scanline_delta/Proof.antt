@@ -1,4 +1,4 @@
--- `resolve_scanline_delta`: after i turns the first i samples stand in the place of their codes. Assumes nothing.
+-- `resolve_scanline_delta`: after i iterations the first i codes are replaced by their samples. Assumes nothing.
 use Prim.Native.Nat.{ℕ, _+_, _%_, _≤_, _-_}
 use lib.ListN.{getD, length, take, length-set}
 use mathlib.Core.Path.{_≡_, refl, sym, ap, _∙_}

@@ -1,4 +1,4 @@
--- `fill_run`: after i turns i values are written. Assumes nothing.
+-- `fill_run`: after i iterations i values are written. Assumes nothing.
 use Prim.Native.Nat.{_≤_, _-_}
 use mathlib.Core.Path.{_≡_, refl, sym}
 use native.Mathlib.Omega.{arith}

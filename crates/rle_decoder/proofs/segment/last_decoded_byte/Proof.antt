@@ -1,4 +1,4 @@
--- `last_decoded_byte`: the last of the raw bytes stands at `at + raw`. Assumes nothing.
+-- `last_decoded_byte`: the last of the raw bytes is at index `at + raw`. Assumes nothing.
 use mathlib.Core.Path.{sym}
 use Rattle.rle_format.proofs.Segment.{lastOr-raw}
 use borrow.Author.Needs.{needs}

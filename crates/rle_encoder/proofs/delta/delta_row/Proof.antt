@@ -1,4 +1,4 @@
--- `delta_row`: after i turns the first i samples are coded and kept. Assumes nothing.
+-- `delta_row`: after i iterations the first i samples are coded and kept. Assumes nothing.
 use mathlib.Core.Path.{sym, _∙_}
 use Prim.Native.Nat.{_≤_, _-_}
 use native.Mathlib.Omega.{arith}

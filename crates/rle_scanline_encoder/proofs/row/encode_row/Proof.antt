@@ -1,4 +1,4 @@
--- `encode_row`: the loop keeps that writing the segments of the rest of the scan, from here on, is writing the row's. Assumes nothing.
+-- `encode_row`: invariant: writing the segments of the rest of the scan from here on is writing those of the row. Assumes nothing.
 use Prim.Native.Nat.{_+_, _-_}
 use native.Mathlib.Omega.{arith}
 use borrow.Author.Needs.{needs}

@@ -1,5 +1,5 @@
 -- `encode_segment` and `encode_long_sequence`, which call each other. The measure of each is the run that it is given, which falls at every
--- call. Each loop keeps that writing what is left, from here on, is writing all (`WriteInvariant`). Assumes nothing.
+-- call. The invariant of each loop: writing what is left from here on is writing all (`WriteInvariant`). Assumes nothing.
 use mathlib.Core.List.{[], _∷_}
 use native.Mathlib.Omega.{arith}
 use borrow.Author.Needs.{needs}
