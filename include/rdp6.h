@@ -38,7 +38,7 @@
  * Linking with -z now avoids that.
  *
  * Backtraces. The library has no unwind tables (.eh_frame). A backtrace taken during a call, by a debugger, a profiler or a signal
- * handler, ends at a function of the library: the callers are missing, and what gdb prints below it is not a caller.
+ * handler, stops at a function of the library: its callers are missing, and gdb may print frames there that do not exist.
  */
 #ifndef RDP6_H
 #define RDP6_H

@@ -87,10 +87,10 @@ fn prefixes_unpacked() {
 /// WIDTH HEIGHT RLE ALPHA DEFINITION LEVEL SUBSAMPLED WORKROOM IMAGEROOM ANSWER BODY WORK-AFTER IMAGE-AFTER
 fn check_picture(decoder: &mut BitmapStreamDecoder, case: &[&str]) {
     let (width, height, rle, alpha) = (number(case[0]), number(case[1]), flag(case[2]), flag(case[3]));
-    let header = match case[4] {
-        "0" => argb(rle, alpha),
-        "1" => aycocg(rle, alpha, number(case[5]) as u8, flag(case[6])),
-        _ => return, // an unknown definition, which only C can pass
+    let header = match (case[4], u8::try_from(number(case[5]))) {
+        ("0", _) => argb(rle, alpha),
+        ("1", Ok(level)) => aycocg(rle, alpha, level, flag(case[6])),
+        _ => return, // an unknown definition, or a level over 255: only C can pass them
     };
     let (expected, body) = (answer(case[9]), hex(case[10]));
     let (mut work, mut image) = (Guarded::filled(0xEE, number(case[7])), Guarded::filled(0xEE, number(case[8])));
