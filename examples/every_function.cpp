@@ -1,5 +1,7 @@
-// Calls every function of the library from C++, on pictures small enough to be packed by hand, and checks what it returns and writes.
+// Calls every function of the library and of the header from C++, on pictures small enough to be packed by hand, and checks what it
+// returns and writes.
 #include <cstdio>
+#include <string>
 #include <vector>
 
 #include "rdp6.h"
@@ -13,7 +15,7 @@ bool all_right = true;
 void expect(const char *function, bool right)
 {
     if (!right) {
-        std::printf("C++: %s does not answer what it must\n", function);
+        std::printf("C++: %s does not return or write what is expected\n", function);
         all_right = false;
     }
 }
@@ -23,12 +25,12 @@ Bytes bytes(const uint8_t *first, size_t count)
     return Bytes(first, first + count);
 }
 
-// Whether just these bytes were written to the start of a buffer filled with EE.
-bool is_written(int64_t answer, const Bytes &slice, const Bytes &expected)
+// Whether exactly these bytes were written, at the start of a buffer filled with EE, and counted.
+bool is_written(int64_t answer, const Bytes &buffer, const Bytes &expected)
 {
-    Bytes whole(expected);
-    whole.resize(slice.size(), 0xEE);
-    return answer == static_cast<int64_t>(expected.size()) && slice == whole;
+    Bytes filled(expected);
+    filled.resize(buffer.size(), 0xEE);
+    return answer == static_cast<int64_t>(expected.size()) && buffer == filled;
 }
 
 void planes()
@@ -73,6 +75,9 @@ void unpacking()
     image.assign(4, 0xEE);
     answer = rdp6_decode(false, false, RDP6_AYCOCG, 1, false, body + 1, 3, NULL, 0, &image[0], image.size(), 1, 1);
     expect("rdp6_decode", is_written(answer, image, bytes(without, 3)));
+    answer = rdp6_decode(false, false, RDP6_AYCOCG, 257, false, body + 1, 3, NULL, 0, &image[0], image.size(), 1, 1);
+    expect("rdp6_decode", answer == -RDP6_LOSS_LEVEL);
+    expect("rdp6_refusal_text", std::string(rdp6_refusal_text(RDP6_ZERO_SIZE)) == "the width or the height is 0");
     expect("rdp6_work_size", rdp6_work_size(true, RDP6_AYCOCG, true, 3, 2) == 6 + 2 + 2);
     expect("rdp6_image_size", rdp6_image_size(3, 2) == 3 * 3 * 2);
 }
@@ -85,6 +90,6 @@ int main()
     packing();
     unpacking();
     if (all_right)
-        std::printf("C++: each of the 9 functions answers what it must\n");
+        std::printf("C++: each of the 9 functions returns and writes what is expected\n");
     return all_right ? 0 : 1;
 }

@@ -1,6 +1,6 @@
 /*
- * Unpacks a small picture: 3 x 2 pixels in AYCoCg with alpha, loss level 1, subsampled, RLE. Then the same truncated in the second row of Y, and with
- * an invalid loss level; both are refused, and the image is unchanged.
+ * Unpacks a small picture: 3 x 2 pixels in AYCoCg with alpha, loss level 1, subsampled, RLE. Then the same truncated in the second row of
+ * Y, and with an invalid loss level. Both are refused, and the image is unchanged.
  */
 #include <inttypes.h>
 #include <stdio.h>
@@ -29,11 +29,11 @@ static void print_image(const uint8_t *image)
 }
 
 /* The buffers are made once, for the largest picture, and used by each call. */
-static void unpack(uint8_t *work, size_t work_len, uint8_t *image, size_t image_len, size_t body_len, uint8_t level)
+static void unpack(uint8_t *work, size_t work_len, uint8_t *image, size_t image_len, size_t body_len, uint32_t level)
 {
     int64_t answer = rdp6_decode(true, true, RDP6_AYCOCG, level, true, body, body_len, work, work_len, image, image_len, WIDTH, HEIGHT);
     if (answer < 0)
-        printf("refusal %" PRId64 "\n", -answer);
+        printf("refusal %" PRId64 ": %s\n", -answer, rdp6_refusal_text(-answer));
     else
         printf("%" PRId64 " bytes written\n", answer);
     print_image(image);

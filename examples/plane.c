@@ -1,6 +1,6 @@
 /*
- * Packs the plane of example 14 of docs/FORMAT.md, a row of 9 above a row of 10, and prints its packing. Then unpacks that, complete and truncated
- * to 6 bytes, and prints the destination; and packs again into a destination of 5 bytes.
+ * Packs the plane of example 14 of docs/FORMAT.md, a row of 9 above a row of 10, and prints its packing. Then unpacks that, complete and
+ * truncated to 6 bytes, and prints the destination. Then packs again into a destination of 5 bytes.
  */
 #include <inttypes.h>
 #include <stdio.h>
@@ -13,7 +13,7 @@ enum { WIDTH = 17, HEIGHT = 2, AREA = WIDTH * HEIGHT };
 static void print_answer(int64_t answer, const char *what)
 {
     if (answer < 0)
-        printf("refusal %" PRId64 "\n", -answer);
+        printf("refusal %" PRId64 ": %s\n", -answer, rdp6_refusal_text(-answer));
     else
         printf("%" PRId64 " bytes %s\n", answer, what);
 }

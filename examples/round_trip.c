@@ -1,6 +1,6 @@
 /*
- * Draws a picture in BGRA, packs it twice, as RLE without alpha and raw with alpha, unpacks both, and checks that R, G and B are the same. Then
- * writes what was unpacked as a PPM file to the path given or to target/examples/round_trip.ppm.
+ * Draws a picture in BGRA, packs it twice, as RLE without alpha and raw with alpha, unpacks both, and checks that R, G and B are the same.
+ * Then writes what was unpacked as a PPM file to the path given or to target/examples/round_trip.ppm.
  */
 #include <inttypes.h>
 #include <stdio.h>
@@ -62,7 +62,7 @@ static void draw(void)
 static size_t counted(int64_t answer)
 {
     if (answer < 0) {
-        printf("refusal %" PRId64 "\n", -answer);
+        printf("refusal %" PRId64 ": %s\n", -answer, rdp6_refusal_text(-answer));
         exit(1);
     }
     return (size_t)answer;
@@ -76,7 +76,7 @@ static void unpack(bool rle, bool alpha, size_t length)
     for (size_t i = 0; i < AREA; i++) {
         const uint8_t *in = pixels + 4 * i, *out = image + 3 * i;
         if (out[0] != in[2] || out[1] != in[1] || out[2] != in[0]) {
-            printf("pixel %zu is another\n", i);
+            printf("pixel %zu differs\n", i);
             exit(1);
         }
     }

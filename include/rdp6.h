@@ -2,8 +2,8 @@
  * RDP 6.0 planar bitmaps: the C interface of librdp6.a. docs/FORMAT.md specifies the format and the behaviour; "FORMAT 2.4" is a
  * section of it.
  *
- * Every function is proved, for every input, to return, to stay inside the buffers that it is given, and to do what its contract in
- * crates/rdp6/src/lib.rt says. What the compiler, the linker and the caller must get right is listed in README.md.
+ * Every function of the library is proved, for every input, to return, to stay inside its buffers, and to do what its contract in
+ * crates/rdp6/src/lib.rt says. README.md lists what the compiler, the linker and the caller must get right.
  *
  * Buffers. A buffer is a pointer and its length in bytes. It belongs to the caller and is used only during the call; nothing is kept,
  * freed or allocated. No alignment is needed. A buffer that is written must not overlap any other buffer of the call; buffers that
@@ -11,19 +11,34 @@
  * length is at most PTRDIFF_MAX. If the length is 0, the pointer may be NULL. Bytes behind what a function writes are unchanged.
  *
  * Results. An int64_t is a number of bytes or, if it is negative, the negated number of a refusal, that is of an error. A refusal
- * changes nothing but what is said of it.
+ * changes nothing but what is said of it. rdp6_refusal_text has a text for each.
  *
- * Arguments. A bool must be 0 or 1, as C has it. Every other value of every argument is allowed.
+ * Arguments. A bool must be 0 or 1. C and C++ convert to that by themselves; a caller in another language must do so too. Every other
+ * number may have any value.
  *
  * Row order. The first row in a body is the first row of the image. RDP bitmap updates carry their rows bottom up: flip the rows to
  * show one, or to compare with a codec that flips, as FreeRDP's does (FORMAT 1.5).
  *
- * Header byte. A stream is a header byte and a body (FORMAT 1.2). These functions read and write bodies; the caller reads and writes
- * the byte: bits 0 to 2 are the loss level, 0 for ARGB; bit 3 (0x08) is subsampling, bit 4 (0x10) RLE, bit 5 (0x20) "no alpha".
+ * Header byte. A stream is a header byte and a body (FORMAT 1). These functions read and write bodies; the caller reads and writes the
+ * header byte:
  *
- * Threads and stack. There is no state: any number of threads may call at once, each with its own buffers. Packing takes at most
- * 17,440 bytes of stack, unpacking fewer than 500. If the program binds memcpy and memset lazily, the first call takes some 3,000 bytes
- * more for the dynamic linker.
+ *   bits 0 to 2 (0x07)   the loss level; 0 is ARGB, 1 to 7 are AYCoCg
+ *   bit 3 (0x08)         AYCoCg: the chroma planes are subsampled
+ *   bit 4 (0x10)         the planes are RLE planes, else raw samples
+ *   bit 5 (0x20)         there is no alpha plane
+ *   bits 6 and 7         0 when written, ignored when read
+ *
+ * Four planes. A sender sets the alpha flag, that is, leaves bit 5 clear (header byte 0x10 for RLE, 0x00 for raw); whoever unpacks passes
+ * alpha as true.
+ *
+ * Threads. There is no state: any number of threads may call at once, each with its own buffers.
+ *
+ * Stack. A call that packs takes at most 17,440 bytes, one that unpacks fewer than 500. In a program that binds lazily the first call
+ * takes more, since the dynamic linker looks up memcpy and memset on the same stack: with glibc 20,300 bytes to pack and 3,700 to unpack.
+ * Linking with -z now avoids that.
+ *
+ * Backtraces. The library has no unwind tables (.eh_frame). A backtrace taken during a call, by a debugger, a profiler or a signal
+ * handler, stops at a function of the library: its callers are missing, and gdb may print frames there that do not exist.
  */
 #ifndef RDP6_H
 #define RDP6_H
@@ -43,17 +58,53 @@ extern "C" {
 enum rdp6_refusal {
     RDP6_ZERO_SIZE = 1,                        /* the width or the height is 0 */
     RDP6_TOO_LARGE = 2,                        /* the width or the height is over 8192 */
-    RDP6_LOSS_LEVEL = 3,                       /* AYCoCg with a loss level of 0 or over 7, or an unknown definition */
+    RDP6_LOSS_LEVEL = 3,                       /* the loss level of AYCoCg is not 1 to 7, or the plane definition is unknown */
     RDP6_INVALID_UNCOMPRESSED_DATA_SIZE = 4,   /* the body is shorter than its minimum size */
     RDP6_SHORT_WORK = 5,                       /* the work area is shorter than the three colour planes */
-    RDP6_SHORT_IMAGE = 6,                      /* the image is shorter than 3 * width * height */
+    RDP6_SHORT_IMAGE = 6,                      /* the image is shorter than 3 * width * height bytes */
     RDP6_READ_COMPRESSED_DATA = 7,             /* a control byte or a raw byte is missing */
     RDP6_INVALID_SEGMENT_HEADER = 8,           /* a control byte is 0 */
     RDP6_SEGMENT_DO_NOT_FIT_SCANLINE = 9,      /* a segment overruns its row */
-    RDP6_SHORT_PLANE = 10,                     /* the destination is shorter than width * height */
-    RDP6_NOT_ENOUGH_BYTES = 11,                /* a source has fewer than width * height samples, or complete pixels */
-    RDP6_BUFFER_TOO_SMALL = 12                 /* the next segment, or the raw body, does not fit */
+    RDP6_SHORT_PLANE = 10,                     /* the destination is shorter than width * height bytes */
+    RDP6_NOT_ENOUGH_BYTES = 11,                /* a source has fewer than width * height samples or complete pixels */
+    RDP6_BUFFER_TOO_SMALL = 12                 /* the next segment, or the raw body, does not fit into the destination */
 };
+
+/*
+ * The text for a refusal, by its number as in enum rdp6_refusal: for a negative result, rdp6_refusal_text(-result). For any other number
+ * the text is "no refusal has this number"; it is never NULL. This function is C, defined here: the library does not export it.
+ */
+static inline const char *rdp6_refusal_text(int64_t number)
+{
+    switch (number) {
+    case RDP6_ZERO_SIZE:
+        return "the width or the height is 0";
+    case RDP6_TOO_LARGE:
+        return "the width or the height is over 8192";
+    case RDP6_LOSS_LEVEL:
+        return "the loss level of AYCoCg is not 1 to 7, or the plane definition is unknown";
+    case RDP6_INVALID_UNCOMPRESSED_DATA_SIZE:
+        return "the body is shorter than its minimum size";
+    case RDP6_SHORT_WORK:
+        return "the work area is shorter than the three colour planes";
+    case RDP6_SHORT_IMAGE:
+        return "the image is shorter than 3 * width * height bytes";
+    case RDP6_READ_COMPRESSED_DATA:
+        return "a control byte or a raw byte is missing";
+    case RDP6_INVALID_SEGMENT_HEADER:
+        return "a control byte is 0";
+    case RDP6_SEGMENT_DO_NOT_FIT_SCANLINE:
+        return "a segment overruns its row";
+    case RDP6_SHORT_PLANE:
+        return "the destination is shorter than width * height bytes";
+    case RDP6_NOT_ENOUGH_BYTES:
+        return "a source has fewer than width * height samples or complete pixels";
+    case RDP6_BUFFER_TOO_SMALL:
+        return "the next segment, or the raw body, does not fit into the destination";
+    default:
+        return "no refusal has this number";
+    }
+}
 
 /*
  * Unpacks an RLE plane of width * height samples (FORMAT 4; MS-RDPEGDI 3.1.9.2) from src into the first width * height bytes of dst,
@@ -95,9 +146,9 @@ enum rdp6_definition {
  * header byte says:
  *
  *   rle                 the planes are RLE planes; else they are raw samples
- *   alpha               there is an alpha plane before the colour planes. It is not part of the image
- *   definition          RDP6_ARGB or RDP6_AYCOCG; any other value is refusal 3
- *   color_loss_level    1 to 7; ignored for ARGB
+ *   alpha               there is an alpha plane before the colour planes: true for four planes. It is not part of the image
+ *   definition          RDP6_ARGB or RDP6_AYCOCG; any other number, 256 and 257 too, is refusal 3
+ *   color_loss_level    AYCoCg: 1 to 7; any other number, 256 and 257 too, is refusal 3. Ignored for ARGB
  *   chroma_subsampling  the chroma planes have half the sides; ignored for ARGB
  *
  * With chroma = ((width + 1) / 2) * ((height + 1) / 2) for a subsampled AYCoCg picture, else width * height, the minimum lengths are
@@ -114,7 +165,7 @@ enum rdp6_definition {
  * Refusals, checked in this order. None of them changes image:
  *    1  width or height is 0                                          }
  *    2  width or height is over 8192                                  }
- *    3  AYCoCg with loss level 0 or over 7, or an unknown definition  }  work is unchanged too
+ *    3  AYCoCg with a level other than 1 to 7; another definition     }  work is unchanged too
  *    4  body_len is below its minimum                                 }
  *    5  work_len is below its minimum (RLE only)                      }
  *    6  image_len is below its minimum                                }
@@ -122,14 +173,14 @@ enum rdp6_definition {
  *    8  a control byte is 0                       }  rdp6_decompress_8bpp_plane leaves it. If it is the first colour plane, the part
  *    9  a segment overruns its row                }  that it did not write still has alpha, if there is any
  */
-int64_t rdp6_decode(bool rle, bool alpha, uint8_t definition, uint8_t color_loss_level, bool chroma_subsampling, const uint8_t *body,
+int64_t rdp6_decode(bool rle, bool alpha, uint32_t definition, uint32_t color_loss_level, bool chroma_subsampling, const uint8_t *body,
                     size_t body_len, uint8_t *work, size_t work_len, uint8_t *image, size_t image_len, size_t width, size_t height);
 
 /*
- * The minimum work_len of a picture: the size of its three colour planes, or 0 if it is raw. Returns 0 for sides that are refused. An
- * unknown definition has the size of AYCoCg.
+ * The minimum work_len of a picture: the size of its three colour planes, or 0 if it is raw. Returns 0 for sides that are refused. A
+ * definition that rdp6_decode refuses has the size of AYCoCg.
  */
-size_t rdp6_work_size(bool rle, uint8_t definition, bool chroma_subsampling, size_t width, size_t height);
+size_t rdp6_work_size(bool rle, uint32_t definition, bool chroma_subsampling, size_t width, size_t height);
 
 /* The minimum image_len of a picture, 3 * width * height. Returns 0 for sides that are refused. */
 size_t rdp6_image_size(size_t width, size_t height);
@@ -139,15 +190,16 @@ size_t rdp6_image_size(size_t width, size_t height);
  * written. They are the body; the caller sends a header byte before it.
  *
  *   r, g, b   one channel each, one byte a pixel, row by row. What follows the first width * height bytes is not read
- *   rle       true: three RLE planes, each as rdp6_compress_8bpp_plane packs it. With a dst of 6 * width * height bytes there is no refusal 12
+ *   rle       true: three RLE planes, each as rdp6_compress_8bpp_plane packs it, at most 6 * width * height bytes: with a dst of that size
+ *             there is no refusal 12
  *             false: the samples of the three planes, then one zero byte: 3 * width * height + 1 bytes
  *
  * The header byte for the body is 0x30 for RLE and 0x20 for raw: ARGB, no alpha.
  *
  * Refusals, checked in this order:
- *    1  width or height is 0                               }
- *    2  width or height is over 8192                       }  dst is unchanged
- *   11  r_len, g_len or b_len is below width * height     }
+ *    1  width or height is 0                             }
+ *    2  width or height is over 8192                     }  dst is unchanged
+ *   11  r_len, g_len or b_len is below width * height    }
  *   12  RLE: the next segment does not fit into dst: the segments before it are written, the rest of dst is unchanged
  *       raw: the body does not fit into dst, which is unchanged
  */
@@ -158,8 +210,8 @@ int64_t rdp6_encode_channels_stream(const uint8_t *r, size_t r_len, const uint8_
  * The same with an alpha plane, which is the first: A, R, G, B. An RLE body has at most 8 * width * height bytes, a raw body 4 *
  * width * height + 1. Refusal 11 is checked for a_len too.
  *
- * The sender should set the alpha flag, as MS-RDPEGDI has it: header byte 0x10 for RLE and 0x00 for raw. IronRDP's encoder sends 0x30
- * and 0x20 also here. To unpack such a body with rdp6_decode, pass alpha as true.
+ * A sender sets the alpha flag (header byte 0x10 for RLE, 0x00 for raw); whoever unpacks passes alpha as true. IronRDP's encoder sends
+ * 0x30 and 0x20 here too; with these a receiver takes A for R, R for G and G for B.
  */
 int64_t rdp6_encode_channels_stream_alpha(const uint8_t *r, size_t r_len, const uint8_t *g, size_t g_len, const uint8_t *b, size_t b_len,
                                           const uint8_t *a, size_t a_len, uint8_t *dst, size_t dst_len, bool rle, size_t width,

@@ -1,4 +1,4 @@
-//! Links the static library. Its path is a setting, or it lies where `rt staticlib rdp6` leaves it.
+//! Links the static library: the one that `RDP6_LIBRARY` names, or the one that `rt staticlib rdp6` writes in this repository.
 
 use std::path::{Path, PathBuf};
 use std::{env, fs, process};
@@ -8,7 +8,9 @@ const PLACE: &str = "../../target/staticlib/librdp6.a";
 
 fn stop(file: &Path, why: &str) -> ! {
     eprintln!("The library librdp6.a cannot be linked: {} ({why}).", file.display());
-    eprintln!("Make it with `rt staticlib rdp6` at the top of the rdp6 repository, or set {SETTING} to the whole path of one.");
+    eprintln!(
+        "Make it with `rt staticlib rdp6` at the top of the rdp6 repository, or set {SETTING} to its absolute path."
+    );
     process::exit(1)
 }
 
@@ -16,8 +18,8 @@ fn library() -> PathBuf {
     println!("cargo:rerun-if-env-changed={SETTING}");
     match env::var_os(SETTING).map(PathBuf::from) {
         Some(file) if file.as_os_str().is_empty() => default_place(),
-        // This program runs in the crate's folder, and not where the path was written.
-        Some(file) if file.is_relative() => stop(&file, &format!("{SETTING} must be a whole path, from / on")),
+        // Cargo runs this program in the crate's folder, not in the folder that the path is relative to.
+        Some(file) if file.is_relative() => stop(&file, &format!("{SETTING} must be an absolute path")),
         Some(file) => file,
         None => default_place(),
     }

@@ -21,7 +21,7 @@ fn header(color_loss_level: u8) -> BitmapStreamHeader {
 fn unpack(level: u8, body: &[u8], work: &mut [u8], image: &mut [u8]) {
     match decode(header(level), body, work, image, WIDTH, HEIGHT) {
         Ok(count) => println!("{count} bytes written"),
-        Err(refusal) => println!("refusal {}", refusal.number()),
+        Err(refusal) => println!("{refusal}"),
     }
     for row in image.chunks(3 * WIDTH) {
         let pixels: Vec<String> = row.chunks(3).map(|p| format!("{:3} {:3} {:3}", p[0], p[1], p[2])).collect();

@@ -11,7 +11,7 @@ const AREA: usize = WIDTH * HEIGHT;
 fn print_answer(answer: Result<usize, Refusal>, what: &str) {
     match answer {
         Ok(count) => println!("{count} bytes {what}"),
-        Err(refusal) => println!("refusal {}", refusal.number()),
+        Err(refusal) => println!("{refusal}"),
     }
 }
 

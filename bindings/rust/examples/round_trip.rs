@@ -60,7 +60,7 @@ fn round_trip(what: &str, alpha: bool, rle: bool, pixels: &[u8]) -> Result<Vec<u
     BitmapStreamDecoder::default().decode_body_to_rgb24(header, &body, &mut image, WIDTH, HEIGHT)?;
     let differs = |(pixel, rgb): (&[u8], &[u8])| rgb != [pixel[2], pixel[1], pixel[0]];
     if let Some(i) = pixels.chunks(4).zip(image.chunks(3)).position(differs) {
-        return Err(format!("pixel {i} is another").into());
+        return Err(format!("pixel {i} differs").into());
     }
     println!("  unpacked, with the same R, G and B");
     Ok(image)

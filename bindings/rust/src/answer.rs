@@ -9,10 +9,10 @@ pub fn to_result(answer: i64) -> Result<usize, Refusal> {
 
 fn refusal_of(answer: i64) -> Refusal {
     let refusal = u8::try_from(answer.unsigned_abs()).ok().and_then(|number| Refusal::try_from(number).ok());
-    // The contracts allow no other answer, so this is a library with another interface.
+    // The contracts allow no other result, so this is a library with another interface.
     refusal.unwrap_or_else(|| {
         panic!(
-            "librdp6.a returned {answer}, which this crate does not know: use the library and the crate of one version"
+            "librdp6.a returned {answer}, which this crate does not know: use the library and the crate of the same version"
         )
     })
 }

@@ -1,5 +1,5 @@
-//! The functions of include/rdp6.h. tests/header.rs compares this block with that file: keep the names and the order of functions and
-//! parameters. The comparison with IronRDP (differential/rust/ours) uses this file too.
+//! The functions of the library. tests/header.rs compares these declarations with include/rdp6.h: keep the names and the order of functions
+//! and parameters. The comparison with IronRDP (differential/rust/ours) uses this file too.
 
 /// The type of the functions that pack pixels.
 pub type EncodeBitmap = unsafe extern "C" fn(
@@ -34,8 +34,8 @@ extern "C" {
     pub fn rdp6_decode(
         rle: bool,
         alpha: bool,
-        definition: u8,
-        color_loss_level: u8,
+        definition: u32,
+        color_loss_level: u32,
         chroma_subsampling: bool,
         body: *const u8,
         body_len: usize,
@@ -47,7 +47,7 @@ extern "C" {
         height: usize,
     ) -> i64;
 
-    pub fn rdp6_work_size(rle: bool, definition: u8, chroma_subsampling: bool, width: usize, height: usize) -> usize;
+    pub fn rdp6_work_size(rle: bool, definition: u32, chroma_subsampling: bool, width: usize, height: usize) -> usize;
 
     pub fn rdp6_image_size(width: usize, height: usize) -> usize;
 

@@ -14,28 +14,68 @@ pub enum ColorPlaneDefinition {
     },
 }
 
-/// What the header byte of a picture says. The caller reads and writes the byte.
+/// What the header byte of a picture says. The caller reads and writes the byte (MS-RDPEGDI 2.2.2.5.1):
 ///
-/// Its bits 0 to 2 are the loss level, 0 for ARGB; bit 3 (`0x08`) is subsampling, bit 4 (`0x10`) RLE, bit 5 (`0x20`) *no* alpha
-/// (MS-RDPEGDI 2.2.2.5.1).
+/// | Bits | Meaning |
+/// |---|---|
+/// | 0 to 2 (`0x07`) | the loss level; 0 is ARGB, 1 to 7 are AYCoCg |
+/// | 3 (`0x08`) | AYCoCg: the chroma planes are subsampled |
+/// | 4 (`0x10`) | the planes are RLE planes, else raw samples |
+/// | 5 (`0x20`) | there is *no* alpha plane |
+/// | 6 and 7 | 0 when written, ignored when read |
+///
+/// **Four planes.** A sender sets the alpha flag (header byte `0x10` for RLE, `0x00` for raw); whoever unpacks passes `use_alpha` as true.
+///
+/// ```
+/// use rdp6::{BitmapStreamHeader, ColorPlaneDefinition};
+///
+/// fn header_byte(header: BitmapStreamHeader) -> u8 {
+///     let definition = match header.color_plane_definition {
+///         ColorPlaneDefinition::Argb => 0,
+///         ColorPlaneDefinition::AYCoCg { color_loss_level, use_chroma_subsampling } => {
+///             color_loss_level | (u8::from(use_chroma_subsampling) << 3)
+///         }
+///     };
+///     definition | (u8::from(header.enable_rle_compression) << 4) | (u8::from(!header.use_alpha) << 5)
+/// }
+///
+/// fn header_of(byte: u8) -> BitmapStreamHeader {
+///     let color_plane_definition = match byte & 0x07 {
+///         0 => ColorPlaneDefinition::Argb,
+///         level => ColorPlaneDefinition::AYCoCg { color_loss_level: level, use_chroma_subsampling: byte & 0x08 != 0 },
+///     };
+///     BitmapStreamHeader {
+///         enable_rle_compression: byte & 0x10 != 0,
+///         use_alpha: byte & 0x20 == 0,
+///         color_plane_definition,
+///     }
+/// }
+///
+/// let header = header_of(0x10);
+/// assert!(header.enable_rle_compression && header.use_alpha);
+/// # for byte in (0..64).filter(|byte| byte & 0x0F != 0x08) {
+/// #     assert_eq!(header_byte(header_of(byte)), byte);
+/// # }
+/// assert_eq!(header_byte(header), 0x10);
+/// ```
 #[derive(Clone, Copy, Debug, PartialEq, Eq, Hash)]
 pub struct BitmapStreamHeader {
     /// Whether the planes are RLE planes; else they are raw samples.
     pub enable_rle_compression: bool,
-    /// Whether there is an alpha plane before the colour planes.
+    /// Whether there is an alpha plane before the colour planes: true for four planes.
     pub use_alpha: bool,
     /// What the colour planes are.
     pub color_plane_definition: ColorPlaneDefinition,
 }
 
 /// `enum rdp6_definition` of include/rdp6.h.
-const RDP6_ARGB: u8 = 0;
-const RDP6_AYCOCG: u8 = 1;
+const RDP6_ARGB: u32 = 0;
+const RDP6_AYCOCG: u32 = 1;
 
 /// A definition as the C functions take it.
 pub(crate) struct Definition {
-    pub(crate) number: u8,
-    pub(crate) color_loss_level: u8,
+    pub(crate) number: u32,
+    pub(crate) color_loss_level: u32,
     pub(crate) chroma_subsampling: bool,
 }
 
@@ -46,9 +86,11 @@ impl From<ColorPlaneDefinition> for Definition {
             ColorPlaneDefinition::Argb => {
                 Definition { number: RDP6_ARGB, color_loss_level: 0, chroma_subsampling: false }
             }
-            ColorPlaneDefinition::AYCoCg { color_loss_level, use_chroma_subsampling } => {
-                Definition { number: RDP6_AYCOCG, color_loss_level, chroma_subsampling: use_chroma_subsampling }
-            }
+            ColorPlaneDefinition::AYCoCg { color_loss_level, use_chroma_subsampling } => Definition {
+                number: RDP6_AYCOCG,
+                color_loss_level: u32::from(color_loss_level),
+                chroma_subsampling: use_chroma_subsampling,
+            },
         }
     }
 }

@@ -16,7 +16,7 @@
 //! body.truncate(packed.bytes);
 //! assert_eq!(body.len(), 30);
 //!
-//! // The receiver knows `packed.header` from the header byte, which the service reads and writes itself.
+//! // The receiver gets `packed.header` from the header byte, which the service reads and writes.
 //! let mut image = Vec::new();
 //! BitmapStreamDecoder::default().decode_body_to_rgb24(packed.header, &body, &mut image, width, height)?;
 //! assert_eq!(image, [[230, 110, 30]; 128].concat()); // R, G, B
@@ -33,7 +33,7 @@
 //! assert_eq!(plane, [0xEE; 4]);
 //! ```
 //!
-//! # What is here
+//! # Functions
 //!
 //! | | allocates | |
 //! |---|---|---|
@@ -42,23 +42,34 @@
 //! | [`BitmapStreamEncoder`] | no | packs channels or pixels to a picture's body |
 //! | [`decompress_8bpp_plane`], [`compress_8bpp_plane`] | no | unpacks and packs an RLE plane |
 //!
-//! The modules [`rle`], [`bitmap_stream::decoder`] and [`bitmap_stream::encoder`] are those of IronRDP, so that a service that used it changes
-//! the root of its `use` lines. What else changes is in docs/DIFFERENCES.md of the repository, "The Rust binding": above all,
-//! **no header byte is read or written here**.
+//! The modules [`rle`], [`bitmap_stream::decoder`] and [`bitmap_stream::encoder`] have the names of IronRDP's, so that a service that used it
+//! changes the root of its `use` lines. docs/DIFFERENCES.md of the repository, "The Rust binding", lists what else changes.
+//!
+//! # Header byte
+//!
+//! A stream is a header byte and a body. **No function here reads or writes the header byte**; the service does. Bits 0 to 2 (`0x07`) are the
+//! loss level, 0 for ARGB; bit 3 (`0x08`) is subsampling, bit 4 (`0x10`) RLE, bit 5 (`0x20`) *no* alpha. [`BitmapStreamHeader`] has a table
+//! and an example.
+//!
+//! **Four planes.** A sender sets the alpha flag (header byte `0x10` for RLE, `0x00` for raw); whoever unpacks passes `use_alpha` as true.
 //!
 //! # Row order
 //!
 //! The first row in a body is the first row of the image. RDP bitmap updates carry their rows bottom up: flip the rows to show one, or to compare
 //! with a codec that flips, as FreeRDP's does.
 //!
+//! # Slices, threads, stack
+//!
+//! Width and height are each from 1 to [`MAX_SIDE`]. No slice needs an alignment. There is no state: any number of threads may call at once. A
+//! call that packs takes at most 17,440 bytes of stack, one that unpacks fewer than 500; include/rdp6.h says when the first call takes more.
+//! Backtraces end in the library, since it has no unwind tables.
+//!
 //! # What is proved, and what must be believed
 //!
 //! Every function of the library is proved, for every input, to return, to stay inside its slices, and to give the answer and the bytes
 //! of its definition; see the repository's README. This crate is not proved. It is small: it passes slices with their lengths, converts the
-//! results, names the header record to send, and makes vectors longer. A test compares its declarations of the C functions with
-//! include/rdp6.h.
-//!
-//! There is no state: any number of threads may call at once.
+//! results, sets the header record to send, and extends vectors. Tests compare its declarations of the C functions, its numbers and its texts
+//! with include/rdp6.h.
 
 #![deny(missing_docs, unsafe_op_in_unsafe_fn)]
 #![warn(clippy::undocumented_unsafe_blocks)]
@@ -70,10 +81,23 @@ mod header;
 mod refusal;
 pub mod rle;
 
+#[doc(inline)]
 pub use bitmap_stream::decoder::{decode, image_size, work_size, BitmapDecodeError, BitmapStreamDecoder};
+#[doc(inline)]
 pub use bitmap_stream::encoder::{
     AlphaChannel, BgrAChannels, BitmapEncodeError, BitmapStreamEncoder, ColorChannels, Encoded, PixelAlpha, PixelFormat,
 };
+#[doc(inline)]
 pub use header::{BitmapStreamHeader, ColorPlaneDefinition};
+#[doc(inline)]
 pub use refusal::{Refusal, UnknownNumber};
+#[doc(inline)]
 pub use rle::{compress_8bpp_plane, decompress_8bpp_plane, RleDecodeError, RleEncodeError};
+
+/// The largest width and the largest height. A larger one is refusal 2.
+///
+/// ```
+/// assert_eq!(rdp6::image_size(rdp6::MAX_SIDE, 1), 3 * 8192);
+/// assert_eq!(rdp6::image_size(rdp6::MAX_SIDE + 1, 1), 0);
+/// ```
+pub const MAX_SIDE: usize = 8192;

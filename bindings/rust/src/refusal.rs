@@ -25,13 +25,15 @@ pub enum Refusal {
     ZeroSize = 1,
     /// The width or the height is over 8,192.
     TooLarge = 2,
-    /// AYCoCg with a loss level of 0 or over 7.
+    /// The loss level of AYCoCg is not 1 to 7. In C also an unknown plane definition, which no [`ColorPlaneDefinition`] is.
+    ///
+    /// [`ColorPlaneDefinition`]: crate::ColorPlaneDefinition
     LossLevel = 3,
     /// The body of a picture is shorter than its minimum size.
     InvalidUncompressedDataSize = 4,
     /// The work area is shorter than the three colour planes.
     ShortWork = 5,
-    /// The image is shorter than 3 × width × height.
+    /// The image is shorter than 3 × width × height bytes.
     ShortImage = 6,
     /// A control byte or a raw byte is missing.
     ReadCompressedData = 7,
@@ -39,9 +41,9 @@ pub enum Refusal {
     InvalidSegmentHeader = 8,
     /// A segment overruns its row.
     SegmentDoNotFitScanline = 9,
-    /// The destination is shorter than width × height.
+    /// The destination is shorter than width × height bytes.
     ShortPlane = 10,
-    /// A source has fewer than width × height samples, or complete pixels.
+    /// A source has fewer than width × height samples or complete pixels.
     NotEnoughBytes = 11,
     /// The next segment, or the raw body, does not fit into the destination.
     BufferTooSmall = 12,
@@ -63,24 +65,25 @@ const ALL: [Refusal; 12] = [
 ];
 
 impl Refusal {
-    /// The number, 1 to 12, which is also what the C functions answer, with a minus.
+    /// The number, 1 to 12. The C functions return it negated.
     pub const fn number(self) -> u8 {
         self as u8
     }
 
+    /// What `rdp6_refusal_text` of include/rdp6.h returns for the number. `Display` writes it after the number.
     const fn text(self) -> &'static str {
         match self {
             Refusal::ZeroSize => "the width or the height is 0",
             Refusal::TooLarge => "the width or the height is over 8192",
-            Refusal::LossLevel => "the loss level of AYCoCg is not 1 to 7",
+            Refusal::LossLevel => "the loss level of AYCoCg is not 1 to 7, or the plane definition is unknown",
             Refusal::InvalidUncompressedDataSize => "the body is shorter than its minimum size",
             Refusal::ShortWork => "the work area is shorter than the three colour planes",
-            Refusal::ShortImage => "the image is shorter than three bytes a pixel",
+            Refusal::ShortImage => "the image is shorter than 3 * width * height bytes",
             Refusal::ReadCompressedData => "a control byte or a raw byte is missing",
             Refusal::InvalidSegmentHeader => "a control byte is 0",
             Refusal::SegmentDoNotFitScanline => "a segment overruns its row",
-            Refusal::ShortPlane => "the destination is shorter than the plane",
-            Refusal::NotEnoughBytes => "a source has fewer samples than the plane",
+            Refusal::ShortPlane => "the destination is shorter than width * height bytes",
+            Refusal::NotEnoughBytes => "a source has fewer than width * height samples or complete pixels",
             Refusal::BufferTooSmall => "the next segment, or the raw body, does not fit into the destination",
         }
     }

@@ -1,11 +1,11 @@
-//! `BitmapStreamDecoder`: what it appends, what it leaves alone, what it allocates. The expected results are written from docs/FORMAT.md.
+//! `BitmapStreamDecoder`: what it appends, what it does not change, what it allocates. The expected results are written from docs/FORMAT.md.
 
 mod support;
 
 use rdp6::{BitmapStreamDecoder, BitmapStreamHeader, Refusal};
 use support::{argb, aycocg, first, hex, Noise, REFUSED_SIDES};
 
-/// Unpacks onto bytes that are there already.
+/// Unpacks a picture and appends it to two bytes.
 fn unpack(
     decoder: &mut BitmapStreamDecoder,
     header: BitmapStreamHeader,
@@ -26,7 +26,7 @@ fn images_are_appended() {
     assert_eq!(dst, hex("AA 01 02 03 04 05 06"));
 }
 
-/// Examples 15 and 16, and a subsampled picture with its Pad byte.
+/// Examples 15 and 16 of FORMAT 10, and a subsampled picture with its pad byte.
 #[test]
 fn colours() {
     let mut decoder = BitmapStreamDecoder::default();
@@ -40,7 +40,7 @@ fn colours() {
     check(aycocg(false, true, 1, true), "FF*4 64*4 01 00 00", (2, 2), "65 64 63 65 64 63 65 64 63 65 64 63");
 }
 
-/// A larger picture before, a smaller one and a refused one change nothing for the next.
+/// A picture gives the same image after a larger one, a smaller one and a refused one.
 #[test]
 fn the_work_area_is_kept() {
     let mut decoder = BitmapStreamDecoder::default();
@@ -55,8 +55,9 @@ fn the_work_area_is_kept() {
             body.extend(&packed[..n]);
         }
         let mut dst = Vec::new();
-        let cut = decoder.decode_body_to_rgb24(argb(true, false), &body[..body.len() - 1], &mut dst, width, height);
-        assert!(matches!(cut, Err(Refusal::ReadCompressedData | Refusal::InvalidUncompressedDataSize)));
+        let truncated = &body[..body.len() - 1];
+        let answer = decoder.decode_body_to_rgb24(argb(true, false), truncated, &mut dst, width, height);
+        assert!(matches!(answer, Err(Refusal::ReadCompressedData | Refusal::InvalidUncompressedDataSize)));
         assert!(dst.is_empty());
         decoder.decode_body_to_rgb24(argb(true, false), &body, &mut dst, width, height).unwrap();
         let rgb: Vec<u8> = (0..width * height).flat_map(|i| [planes[0][i], planes[1][i], planes[2][i]]).collect();
@@ -65,7 +66,7 @@ fn the_work_area_is_kept() {
 }
 
 #[test]
-fn sides_are_tested_before_all_others() {
+fn sides_are_checked_first() {
     let mut decoder = BitmapStreamDecoder::default();
     for (width, height, refusal) in REFUSED_SIDES {
         for header in [argb(true, false), argb(false, true), aycocg(true, false, 0, true)] {
@@ -76,9 +77,9 @@ fn sides_are_tested_before_all_others() {
     }
 }
 
-/// Of a level, a body's length and its bytes that are wrong at once the first is answered; the destination is as it was.
+/// If the level, the body's length and its bytes are all wrong, the first of them is the refusal; the destination is unchanged.
 #[test]
-fn tests_come_in_order() {
+fn checks_come_in_order() {
     let mut decoder = BitmapStreamDecoder::default();
     for level in [1, 7, 0, 8, 255] {
         for (body, short, damage) in [
@@ -102,9 +103,9 @@ fn tests_come_in_order() {
     }
 }
 
-/// Refusals 1 to 4 allocate nothing: a stranger's sides cost no memory.
+/// Refusals 1 to 4 allocate nothing: sides from an untrusted stream cost no memory.
 #[test]
-fn refused_pictures_are_given_no_memory() {
+fn refused_pictures_allocate_nothing() {
     let mut decoder = BitmapStreamDecoder::default();
     let mut dst = Vec::new();
     for (header, body, sides, refusal) in [
@@ -125,7 +126,20 @@ fn refused_pictures_are_given_no_memory() {
     assert_eq!(format!("{decoder:?}"), "BitmapStreamDecoder { planes_buffer: 31 bytes }");
 }
 
-/// A decoder may be handed to another thread.
+/// A clone unpacks the same, with a work area of its own that is empty at first.
+#[test]
+fn decoders_can_be_cloned() {
+    let mut decoder = BitmapStreamDecoder::default();
+    let (header, body) = (argb(true, false), "10 01 10 02 10 03");
+    let unpacked = unpack(&mut decoder, header, body, (1, 1));
+    let mut clone = decoder.clone();
+    assert_eq!(format!("{clone:?}"), "BitmapStreamDecoder { planes_buffer: 0 bytes }");
+    assert_eq!(unpack(&mut clone, header, body, (1, 1)), unpacked);
+    assert_eq!(unpack(&mut decoder, header, body, (1, 1)), unpacked);
+    assert_eq!(unpacked, (Ok(()), hex("AA BB 01 02 03")));
+}
+
+/// A decoder may be moved to another thread.
 #[test]
 fn decoders_can_be_sent() {
     let mut decoder = BitmapStreamDecoder::default();

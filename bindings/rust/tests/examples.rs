@@ -1,4 +1,4 @@
-//! The examples print what those in C print, to the byte.
+//! The examples print exactly what those in C print.
 
 use std::path::Path;
 use std::process::Command;
@@ -18,8 +18,9 @@ fn printed(name: &str) -> String {
 
 fn expected(name: &str) -> String {
     let file = Path::new(env!("CARGO_MANIFEST_DIR")).join(format!("../../examples/{name}.expected"));
-    fs::read_to_string(&file)
-        .unwrap_or_else(|why| panic!("{} cannot be read: {why}. This test needs the whole repository.", file.display()))
+    fs::read_to_string(&file).unwrap_or_else(|why| {
+        panic!("{} cannot be read: {why}. This test needs the complete repository.", file.display())
+    })
 }
 
 #[test]

@@ -1,4 +1,4 @@
-//! The declarations of src/ffi.rs are those of include/rdp6.h, and so are the numbers. The compiler cannot see that.
+//! The declarations of src/ffi.rs are those of include/rdp6.h, and so are the numbers and the texts. The compiler does not check that.
 
 use std::fs;
 use std::path::Path;
@@ -7,16 +7,17 @@ use rdp6::Refusal;
 
 fn read(file: &str) -> String {
     let path = Path::new(env!("CARGO_MANIFEST_DIR")).join(file);
-    fs::read_to_string(&path)
-        .unwrap_or_else(|why| panic!("{} cannot be read: {why}. This test needs the whole repository.", path.display()))
+    fs::read_to_string(&path).unwrap_or_else(|why| {
+        panic!("{} cannot be read: {why}. This test needs the complete repository.", path.display())
+    })
 }
 
-/// A function: its name, the types and names of its parameters, the type of its answer, all as Rust has them.
+/// A function: its name, the types and names of its parameters, the type of its result, with the types of Rust.
 #[derive(Debug, PartialEq, Eq)]
 struct Function {
     name: String,
     parameters: Vec<(String, String)>,
-    answer: String,
+    result: String,
 }
 
 /// C without comments and lines of the preprocessor.
@@ -37,7 +38,7 @@ fn rust_type(c: &str) -> &'static str {
         "const uint8_t *" => "*const u8",
         "uint8_t *" => "*mut u8",
         "size_t" => "usize",
-        "uint8_t" => "u8",
+        "uint32_t" => "u32",
         "int64_t" => "i64",
         "bool" => "bool",
         other => panic!("a type that this test does not know: {other}"),
@@ -55,15 +56,23 @@ fn c_declared(text: &str) -> (String, String) {
     (rust_type(text[..start].trim_end()).to_string(), text[start..].to_string())
 }
 
+/// The function that the header defines, and the header without it.
+fn split_definition(plain: &str) -> (String, String) {
+    let start = plain.find("static inline ").expect("a function");
+    let end = plain[start..].find("\n}\n").expect("its end") + start + 3;
+    (plain[start..end].to_string(), plain[..start].to_string() + &plain[end..])
+}
+
+/// The functions that the header declares.
 fn c_functions(header: &str) -> Vec<Function> {
-    let plain = plain_c(header);
+    let (_, plain) = split_definition(&plain_c(header));
     let statements = plain.split(';').filter(|statement| statement.contains('('));
     let function = |statement: &str| {
         let (head, rest) = statement.split_once('(').expect("parameters");
         let head = head.rsplit(['{', '}']).next().expect("what follows the last brace");
-        let (answer, name) = c_declared(head);
+        let (result, name) = c_declared(head);
         let parameters = rest.trim_end().strip_suffix(')').expect("the end of the parameters");
-        Function { name, parameters: parameters.split(',').map(c_declared).collect(), answer }
+        Function { name, parameters: parameters.split(',').map(c_declared).collect(), result }
     };
     statements.map(function).collect()
 }
@@ -74,13 +83,13 @@ fn rust_functions(source: &str) -> Vec<Function> {
     let function = |text: &str| {
         let text = words(text);
         let (name, rest) = text.strip_prefix("pub fn ").expect("a function").split_once('(').expect("parameters");
-        let (parameters, answer) = rest.split_once(") -> ").expect("an answer");
+        let (parameters, result) = rest.split_once(") -> ").expect("a result");
         let parameter =
             |text: &str| text.trim().split_once(": ").map(|(name, kind)| (kind.to_string(), name.to_string()));
         Function {
             name: name.to_string(),
             parameters: parameters.split(',').filter_map(parameter).collect(),
-            answer: answer.to_string(),
+            result: result.to_string(),
         }
     };
     block.split(';').filter(|text| !text.trim().is_empty()).map(function).collect()
@@ -89,18 +98,18 @@ fn rust_functions(source: &str) -> Vec<Function> {
 #[test]
 fn the_declarations_are_those_of_the_header() {
     let functions = c_functions(&read("../../include/rdp6.h"));
-    assert!(functions.len() >= 9, "the header has nine functions at least");
+    assert_eq!(functions.len(), 9, "the functions of the header");
     assert_eq!(rust_functions(&read("src/ffi.rs")), functions);
 }
 
-/// Each edit of the header must be seen.
+/// Each edit of the header must be found.
 #[test]
-fn another_declaration_would_be_seen() {
+fn another_declaration_is_found() {
     let header = read("../../include/rdp6.h");
     let declared = rust_functions(&read("src/ffi.rs"));
     for (from, to) in [
         ("size_t dst_len, size_t width, size_t height);", "size_t dst_len, size_t height, size_t width);"),
-        ("bool rle, bool alpha, uint8_t definition", "bool rle, bool alpha, size_t definition"),
+        ("bool rle, bool alpha, uint32_t definition", "bool rle, bool alpha, size_t definition"),
         ("bool rle, bool alpha,", "bool alpha, bool rle,"),
         ("uint8_t *dst, size_t dst_len, bool rle", "const uint8_t *dst, size_t dst_len, bool rle"),
         ("size_t rdp6_image_size", "int64_t rdp6_image_size"),
@@ -109,7 +118,7 @@ fn another_declaration_would_be_seen() {
     ] {
         let edited = header.replace(from, to);
         assert_ne!(edited, header, "nothing to edit: {from}");
-        assert_ne!(c_functions(&edited), declared, "not seen: {to}");
+        assert_ne!(c_functions(&edited), declared, "not found: {to}");
     }
 }
 
@@ -145,6 +154,58 @@ fn the_refusals_are_those_of_the_header() {
 fn the_definitions_are_those_of_the_header() {
     let source = read("src/header.rs");
     for (name, number) in c_enum(&read("../../include/rdp6.h"), "rdp6_definition") {
-        assert!(source.contains(&format!("const {name}: u8 = {number};")), "{name}");
+        assert!(source.contains(&format!("const {name}: u32 = {number};")), "{name}");
+    }
+}
+
+#[test]
+fn the_largest_side_is_that_of_the_header() {
+    let line = format!("#define RDP6_MAX_SIDE {}", rdp6::MAX_SIDE);
+    assert!(read("../../include/rdp6.h").lines().any(|other| other == line), "{line}");
+}
+
+/// The labels of rdp6_refusal_text with their texts: `case RDP6_ZERO_SIZE` or `default`.
+fn c_texts(header: &str) -> Vec<(String, String)> {
+    let (definition, _) = split_definition(&plain_c(header));
+    let (head, body) = definition.split_once("switch (number) {").expect("a switch over the number");
+    assert_eq!(words(head), "static inline const char *rdp6_refusal_text(int64_t number) {");
+    let case = |text: &str| {
+        let (label, text) = text.split_once(':').expect("a label");
+        let text = words(text);
+        let text = text.strip_prefix("return \"").and_then(|text| text.strip_suffix('"')).expect("a text");
+        (words(label), text.to_string())
+    };
+    body.split(';').filter(|text| text.contains(':')).map(case).collect()
+}
+
+/// The same from `Refusal`, in the order of the numbers.
+fn rust_texts(header: &str) -> Vec<(String, String)> {
+    let cases = c_enum(header, "rdp6_refusal").into_iter().map(|(name, number)| {
+        let text = Refusal::try_from(number).expect("a refusal of that number").to_string();
+        let text = text.strip_prefix(&format!("refusal {number}: ")).expect("the number comes first");
+        (format!("case {name}"), text.to_string())
+    });
+    cases.chain([("default".to_string(), "no refusal has this number".to_string())]).collect()
+}
+
+#[test]
+fn the_texts_are_those_of_the_header() {
+    let header = read("../../include/rdp6.h");
+    assert_eq!(rust_texts(&header).len(), 13);
+    assert_eq!(c_texts(&header), rust_texts(&header));
+}
+
+#[test]
+fn another_text_is_found() {
+    let header = read("../../include/rdp6.h");
+    for (from, to) in [
+        ("\"a control byte is 0\"", "\"a control byte is 1\""),
+        ("case RDP6_SHORT_PLANE:", "case RDP6_SHORT_IMAGE:"),
+        ("    case RDP6_SHORT_WORK:\n        return \"the work area is shorter than the three colour planes\";\n", ""),
+        ("\"no refusal has this number\"", "\"\""),
+    ] {
+        let edited = header.replace(from, to);
+        assert_ne!(edited, header, "nothing to edit: {from}");
+        assert_ne!(c_texts(&edited), rust_texts(&header), "not found: {to}");
     }
 }

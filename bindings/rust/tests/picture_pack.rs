@@ -6,7 +6,7 @@ use rdp6::{
     AlphaChannel, BgrAChannels, BitmapEncodeError, BitmapStreamEncoder, ColorChannels, Encoded, PixelAlpha,
     PixelFormat, Refusal,
 };
-use support::{argb, hex, Lent, Noise, REFUSED_SIDES};
+use support::{argb, hex, Guarded, Noise, REFUSED_SIDES};
 
 /// Which of the four methods is called.
 #[derive(Clone, Copy, Debug)]
@@ -35,30 +35,29 @@ const FORMS: [Form; 8] = {
 /// The samples of R, G, B and A.
 type Channels = [Vec<u8>; 4];
 
-/// The answer, and what a destination of `EE` holds after it.
+/// The answer, and the destination after the call. Before it all its bytes are `EE`.
 type Outcome = (Result<Encoded, Refusal>, Vec<u8>);
 
-/// Pixels of B, G, R, A of as many samples as all channels have.
+/// Pixels of B, G, R, A, as many as the shortest channel has samples.
 fn bgra([r, g, b, a]: &Channels) -> Vec<u8> {
     let count = [r, g, b, a].iter().map(|channel| channel.len()).min().unwrap();
     (0..count).flat_map(|i| [b[i], g[i], r[i], a[i]]).collect()
 }
 
 fn pack(form: Form, channels: &Channels, room: usize, sides: (usize, usize)) -> Outcome {
-    let mut dst = Lent::filled(0xEE, room);
+    let mut dst = Guarded::filled(0xEE, room);
     let mut encoder = BitmapStreamEncoder::new(sides.0, sides.1);
     let [r, g, b, a] = channels;
     let answer = match (form.pixels, form.alpha) {
-        (false, false) => encoder.encode_channels_stream((r, g, b), dst.lend(), form.rle),
-        (false, true) => encoder.encode_channels_stream_alpha((r, g, b, a), dst.lend(), form.rle),
-        (true, false) => encoder.encode_bitmap::<BgrAChannels>(&bgra(channels), dst.lend(), form.rle),
-        (true, true) => encoder.encode_bitmap_alpha::<BgrAChannels>(&bgra(channels), dst.lend(), form.rle),
+        (false, false) => encoder.encode_channels_stream((r, g, b), dst.slice(), form.rle),
+        (false, true) => encoder.encode_channels_stream_alpha((r, g, b, a), dst.slice(), form.rle),
+        (true, false) => encoder.encode_bitmap::<BgrAChannels>(&bgra(channels), dst.slice(), form.rle),
+        (true, true) => encoder.encode_bitmap_alpha::<BgrAChannels>(&bgra(channels), dst.slice(), form.rle),
     };
     (answer, dst.after().to_vec())
 }
 
-/// "The answer is the byte count and the header record to send: RLE as asked, ARGB, alpha flag false. The four-plane form gives alpha
-/// false too".
+/// FORMAT 7.5 and 8.4: the number of bytes, and the header record to send, whose alpha flag is false for four planes too.
 fn sent(bytes: usize, rle: bool) -> Result<Encoded, Refusal> {
     Ok(Encoded { bytes, header: argb(rle, false) })
 }
@@ -67,14 +66,14 @@ fn one_pixel() -> Channels {
     ["03", "02", "01", "04"].map(hex)
 }
 
-/// Two rows of 17: R is example 14's, the others are one value throughout. With the segments of each, by the rules of FORMAT 5.
+/// Two rows of 17 with their segments by the rules of FORMAT 5: R is example 14 of FORMAT 10, each other channel has one value.
 fn worked() -> (Channels, [Vec<Vec<u8>>; 4]) {
     let flat = |value: &str| vec![hex(&format!("1F {value}")), hex(&format!("10 {value}")), hex("1F 00"), hex("10 00")];
     let r = ["1F 09", "10 09", "1F 02", "10 02"].map(hex).to_vec();
     (["09*17,0A*17", "02*34", "03*34", "FF*34"].map(hex), [r, flat("02"), flat("03"), flat("FF")])
 }
 
-/// The planes in the order in which they go out: R, G, B, or A, R, G, B.
+/// The planes in the order of the body: R, G, B, or A, R, G, B.
 fn sent_planes<T: Clone>(form: Form, planes: &[T; 4]) -> Vec<T> {
     let [r, g, b, a] = planes.clone();
     if form.alpha {
@@ -84,7 +83,7 @@ fn sent_planes<T: Clone>(form: Form, planes: &[T; 4]) -> Vec<T> {
     }
 }
 
-/// The whole pieces of a body, before each of which the room is looked at: segments, or the raw body.
+/// The pieces of a body that are written complete or not at all: segments, or the raw body.
 fn pieces(form: Form, samples: &Channels, segments: &[Vec<Vec<u8>>; 4]) -> Vec<Vec<u8>> {
     if form.rle {
         return sent_planes(form, segments).concat();
@@ -92,7 +91,7 @@ fn pieces(form: Form, samples: &Channels, segments: &[Vec<Vec<u8>>; 4]) -> Vec<V
     vec![[sent_planes(form, samples).concat(), vec![0]].concat()]
 }
 
-/// With a room of every length: as many whole pieces as fit, and the rest untouched.
+/// With destinations of every length: as many complete pieces as fit are written, and the rest is unchanged.
 fn check_every_room(form: Form, samples: &Channels, segments: &[Vec<Vec<u8>>; 4], sides: (usize, usize)) {
     let pieces = pieces(form, samples, segments);
     let total: usize = pieces.iter().map(Vec::len).sum();
@@ -131,7 +130,7 @@ fn worked_planes_with_every_room() {
 }
 
 #[test]
-fn sides_are_tested_before_all_others() {
+fn sides_are_checked_first() {
     for (width, height, refusal) in REFUSED_SIDES {
         for form in FORMS {
             for (channels, room) in
@@ -147,11 +146,11 @@ fn sides_are_tested_before_all_others() {
 /// 11 comes before 12 and changes nothing, whichever channel is short.
 #[test]
 fn short_sources_are_refused() {
-    let (whole, _) = worked();
+    let (complete, _) = worked();
     for form in FORMS {
         for short in 0..if form.alpha { 4 } else { 3 } {
             for length in [0, 1, 17, 33] {
-                let mut channels = whole.clone();
+                let mut channels = complete.clone();
                 channels[short].truncate(length);
                 for room in [0, 1, 5, 400] {
                     let refused = pack(form, &channels, room, (17, 2));
@@ -160,28 +159,28 @@ fn short_sources_are_refused() {
             }
         }
     }
-    // A short one is not made good by a long one.
-    let mut channels = whole;
+    // A longer channel does not make up for a short one.
+    let mut channels = complete;
     channels[0].pop();
     channels[1].push(2);
     let refused = pack(Form { pixels: false, alpha: false, rle: false }, &channels, 400, (17, 2));
     assert_eq!(refused, (Err(Refusal::NotEnoughBytes), vec![0xEE; 400]));
 }
 
-/// "A pixel slice counts its whole pixels."
+/// FORMAT 7.1: a trailing part of a pixel does not count.
 #[test]
-fn pixels_are_counted_whole() {
+fn only_complete_pixels_count() {
     for length in 0..=12 {
         let pixels = &[1, 2, 3, 4, 5, 6, 7, 8, 9, 10, 11, 12][..length];
-        let mut dst = Lent::filled(0xEE, 8);
-        let answer = BitmapStreamEncoder::new(2, 1).encode_bitmap::<BgrAChannels>(pixels, dst.lend(), false);
+        let mut dst = Guarded::filled(0xEE, 8);
+        let answer = BitmapStreamEncoder::new(2, 1).encode_bitmap::<BgrAChannels>(pixels, dst.slice(), false);
         let expected = if length < 8 { Err(Refusal::NotEnoughBytes) } else { sent(7, false) };
         assert_eq!(answer, expected, "{length} bytes");
         assert_eq!(dst.after(), hex(if length < 8 { "EE*8" } else { "03 07 02 06 01 05 00 EE" }));
     }
 }
 
-/// Of longer channels the first width x height samples are packed, of a flat one too.
+/// Of longer channels the first width x height samples are packed, also where the next samples would lengthen the last run.
 #[test]
 fn sources_may_be_longer() {
     let (samples, segments) = worked();
@@ -205,7 +204,7 @@ fn an_encoder_may_be_used_again() {
     assert_eq!(encoder.clone().encode_channels_stream(([1], [2], [3]), &mut dst, false), sent(4, false));
 }
 
-/// A channel is all that has a slice to show.
+/// A channel is anything that is a slice of bytes.
 #[test]
 fn channels_of_several_kinds() {
     let (r, g, b, a) = ([1, 2], vec![3, 4], vec![5, 6], [7, 8]);
@@ -225,9 +224,9 @@ fn with_layout<F: PixelFormat + PixelAlpha>(pixels: &[u8], dst: &mut [u8]) -> Re
     BitmapStreamEncoder::new(width, 1).encode_bitmap_alpha::<F>(pixels, dst, false)
 }
 
-/// "The layout with `BgrAChannels` has stride 4, R at 2, G at 1, B at 0, A at 3".
+/// The constants of `BgrAChannels` are the offsets that the library uses.
 #[test]
-fn the_layout_is_what_its_numbers_say() {
+fn the_constants_are_those_of_the_layout() {
     type F = BgrAChannels;
     assert_eq!((F::STRIDE, F::R, F::G, F::B, F::A), (4, 2, 1, 0, 3));
     let pixel = [10, 20, 30, 40];
@@ -236,7 +235,7 @@ fn the_layout_is_what_its_numbers_say() {
     assert_eq!(body, [pixel[F::A], pixel[F::R], pixel[F::G], pixel[F::B], 0]);
 }
 
-/// What went in comes out, for three planes under the record handed back, for four with its alpha flag turned.
+/// Unpacking returns what was packed: three planes with the returned header record, four planes with its alpha flag set.
 #[test]
 fn round_trips() {
     let mut noise = Noise(0xA076_1D64_78BD_642F);
@@ -247,13 +246,13 @@ fn round_trips() {
         let [r, g, b, _] = &channels;
         let rgb: Vec<u8> = (0..area).flat_map(|i| [r[i], g[i], b[i]]).collect();
         for form in FORMS {
-            // "A plane has at most two bytes a sample", and a raw picture one more byte.
+            // A plane has at most two bytes a sample.
             let (answer, body) = pack(form, &channels, 8 * area, (width, height));
             let Encoded { bytes, mut header } = answer.unwrap();
             header.use_alpha = form.alpha;
-            let mut work = Lent::filled(0xEE, 3 * area);
-            let mut image = Lent::filled(0xEE, 3 * area);
-            let answer = rdp6::decode(header, &body[..bytes], work.lend(), image.lend(), width, height);
+            let mut work = Guarded::filled(0xEE, 3 * area);
+            let mut image = Guarded::filled(0xEE, 3 * area);
+            let answer = rdp6::decode(header, &body[..bytes], work.slice(), image.slice(), width, height);
             assert_eq!(answer, Ok(3 * area), "case {case}, {form:?}");
             assert_eq!(image.after(), rgb, "case {case}, {form:?}");
             work.after();
@@ -262,7 +261,7 @@ fn round_trips() {
 }
 
 #[test]
-fn threads_do_not_meet() {
+fn threads_do_not_affect_each_other() {
     let (samples, segments) = worked();
     std::thread::scope(|scope| {
         for form in FORMS {

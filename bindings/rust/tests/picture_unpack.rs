@@ -3,14 +3,14 @@
 mod support;
 
 use rdp6::{decode, image_size, work_size, BitmapStreamHeader, Refusal};
-use support::{argb, aycocg, first, hex, Lent, REFUSED_SIDES};
+use support::{argb, aycocg, first, hex, Guarded, REFUSED_SIDES};
 
-/// The answer, the work area and the image after a call that finds both full of `EE`.
+/// The answer, and the work area and the image after the call. Before it all their bytes are `EE`.
 type Outcome = (Result<usize, Refusal>, Vec<u8>, Vec<u8>);
 
 fn unpack(header: BitmapStreamHeader, body: &[u8], rooms: (usize, usize), sides: (usize, usize)) -> Outcome {
-    let (mut work, mut image) = (Lent::filled(0xEE, rooms.0), Lent::filled(0xEE, rooms.1));
-    let answer = decode(header, body, work.lend(), image.lend(), sides.0, sides.1);
+    let (mut work, mut image) = (Guarded::filled(0xEE, rooms.0), Guarded::filled(0xEE, rooms.1));
+    let answer = decode(header, body, work.slice(), image.slice(), sides.0, sides.1);
     (answer, work.after().to_vec(), image.after().to_vec())
 }
 
@@ -18,7 +18,7 @@ fn outcome(answer: Result<usize, Refusal>, work: &str, image: &str) -> Outcome {
     (answer, hex(work), hex(image))
 }
 
-/// Examples 15 and 16: the header's level and alpha, Y, Co, Cg, and the pixel.
+/// Examples 15 and 16 of FORMAT 10: the header's level and alpha, Y, Co, Cg, and the pixel.
 const COLOURS: [(u8, bool, [u8; 3], [u8; 3]); 3] = [
     (1, true, [100, 10, 20], [90, 120, 70]),
     (1, false, [100, 10, 20], [70, 120, 90]),
@@ -43,40 +43,41 @@ fn examples_of_colour() {
     }
 }
 
-/// Example 17: the least body of a row in RLE ARGB.
+/// Example 17 of FORMAT 10: the minimum size of a body of one row in RLE ARGB.
 #[test]
-fn examples_of_the_least_body() {
-    for (width, least) in [(47, 3), (48, 6)] {
+fn examples_of_the_minimum_size() {
+    for (width, minimum) in [(47, 3), (48, 6)] {
         let answer = |length: usize| unpack(argb(true, false), &vec![0; length], (0, 0), (width, 1)).0;
-        assert_eq!(answer(least - 1), Err(Refusal::InvalidUncompressedDataSize));
-        assert_eq!(answer(least), Err(Refusal::ShortWork));
+        assert_eq!(answer(minimum - 1), Err(Refusal::InvalidUncompressedDataSize));
+        assert_eq!(answer(minimum), Err(Refusal::ShortWork));
     }
     assert_eq!(unpack(argb(true, false), &hex("F2*3"), (141, 141), (47, 1)), outcome(Ok(141), "00*141", "00*141"));
 }
 
-/// "A chroma plane has the same, or with subsampling (width/2 rounded up) x (height/2 rounded up). ARGB is never subsampled."
+/// FORMAT 2.2 to 2.6.
 #[test]
-fn sizes_and_least_bodies() {
+fn minimum_sizes() {
     for (width, height) in [(1, 1), (2, 2), (3, 2), (5, 3), (48, 1), (95, 7), (8192, 2), (8191, 8192)] {
         let (full, chroma) = (width * height, ((width + 1) / 2) * ((height + 1) / 2));
-        let rle_least = |w: usize, h: usize| h * ((w + 46) / 47);
-        let (full_least, chroma_least) = (rle_least(width, height), rle_least((width + 1) / 2, (height + 1) / 2));
+        let rle_minimum = |w: usize, h: usize| h * ((w + 46) / 47);
+        let (full_minimum, chroma_minimum) =
+            (rle_minimum(width, height), rle_minimum((width + 1) / 2, (height + 1) / 2));
         assert_eq!(image_size(width, height), 3 * full);
         for alpha in [false, true] {
             let a = usize::from(alpha);
-            for (header, work, least) in [
-                (argb(true, alpha), 3 * full, (3 + a) * full_least),
+            for (header, work, minimum) in [
+                (argb(true, alpha), 3 * full, (3 + a) * full_minimum),
                 (argb(false, alpha), 0, (3 + a) * full),
-                (aycocg(true, alpha, 1, false), 3 * full, (3 + a) * full_least),
+                (aycocg(true, alpha, 1, false), 3 * full, (3 + a) * full_minimum),
                 (aycocg(false, alpha, 7, false), 0, (3 + a) * full),
-                (aycocg(true, alpha, 7, true), full + 2 * chroma, (1 + a) * full_least + 2 * chroma_least),
+                (aycocg(true, alpha, 7, true), full + 2 * chroma, (1 + a) * full_minimum + 2 * chroma_minimum),
                 (aycocg(false, alpha, 1, true), 0, (1 + a) * full + 2 * chroma),
             ] {
                 assert_eq!(work_size(header, width, height), work);
                 let answer = |length| decode(header, &vec![0; length], &mut [], &mut [], width, height);
-                assert_eq!(answer(least - 1), Err(Refusal::InvalidUncompressedDataSize), "{header:?}");
+                assert_eq!(answer(minimum - 1), Err(Refusal::InvalidUncompressedDataSize), "{header:?}");
                 let next = if work > 0 { Refusal::ShortWork } else { Refusal::ShortImage };
-                assert_eq!(answer(least), Err(next), "{header:?}");
+                assert_eq!(answer(minimum), Err(next), "{header:?}");
             }
         }
     }
@@ -89,22 +90,22 @@ fn refused_sides_have_no_sizes() {
         assert_eq!(work_size(argb(true, true), width, height), 0);
         assert_eq!(work_size(aycocg(true, false, 1, true), width, height), 0);
     }
-    // The level is not looked at.
+    // The level is not checked.
     assert_eq!(work_size(aycocg(true, false, 0, true), 2, 2), 6);
     assert_eq!(work_size(aycocg(true, false, 255, false), 2, 2), 12);
 }
 
-/// Rows of a subsampled picture: "chroma row and column as pixel row and column, each halved downward".
+/// FORMAT 6.3: the chroma samples of a subsampled picture.
 #[test]
 fn chroma_planes_are_halved() {
-    // Y is 100 throughout; Co is 1, 2 and 3, 4, Cg 0: red is Y + Co with alpha.
+    // Every Y is 100; Co is 1, 2 and 3, 4, Cg 0: red is Y + Co with alpha.
     let body = [hex("FF*9,64*9"), hex("01 02 03 04"), hex("00*4")].concat();
     let pixel = |co: u8| [100 + co, 100, 100 - co];
     let expected = [1, 1, 2, 1, 1, 2, 3, 3, 4].map(pixel).concat();
     assert_eq!(unpack(aycocg(false, true, 1, true), &body, (0, 27), (3, 3)), (Ok(27), vec![], expected));
 }
 
-/// One byte more of each slice is not read and not written; a raw picture leaves the work area alone.
+/// A further byte of each slice is neither read nor written; a raw picture does not change the work area.
 #[test]
 fn slices_may_be_longer() {
     let (raw, rle) = (hex("01 02 03 04 05 06"), hex("20 01 02 20 03 04 20 05 06"));
@@ -118,15 +119,15 @@ fn slices_may_be_longer() {
     assert_eq!(unpack(argb(true, false), &padded(&rle), (7, 7), (2, 1)), longer);
 }
 
-/// All that can be wrong at once, in all combinations: the first in the order of FORMAT 8.2 is answered, and nothing is changed before 7.
+/// All combinations of wrong arguments: the refusal is the first in the order of FORMAT 8.2, and refusals 1 to 6 change nothing.
 #[test]
-fn tests_come_in_order() {
-    let whole = hex("10 FF 10 64 10 0A 10 14");
+fn checks_come_in_order() {
+    let complete = hex("10 FF 10 64 10 0A 10 14");
     let damaged = hex("10 FF 00 64 10 0A 10 14");
     for (i, level) in (0..5 * 2 * 2 * 2 * 2).map(|i| (i, [1, 7, 0, 8, 255][i % 5])) {
         let bit = |n: usize| (i / 5) >> n & 1 == 1;
         let (short_body, short_work, short_image, bad) = (bit(0), bit(1), bit(2), bit(3));
-        let body = if bad { &damaged } else { &whole };
+        let body = if bad { &damaged } else { &complete };
         let body = if short_body { &body[..3] } else { &body[..] };
         let rooms = (3 - usize::from(short_work), 3 - usize::from(short_image));
         let (answer, work, image) = unpack(aycocg(true, true, level, false), body, rooms, (1, 1));
@@ -149,7 +150,7 @@ fn tests_come_in_order() {
 }
 
 #[test]
-fn sides_are_tested_before_all_others() {
+fn sides_are_checked_first() {
     for (width, height, refusal) in REFUSED_SIDES {
         for header in
             [argb(false, false), argb(true, true), aycocg(true, false, 1, true), aycocg(false, true, 0, false)]
@@ -162,9 +163,9 @@ fn sides_are_tested_before_all_others() {
     }
 }
 
-/// ARGB has no level, and a raw picture no work area and no segments.
+/// ARGB has no level, and a raw picture has no work area and no segments.
 #[test]
-fn what_is_not_looked_at_is_not_refused() {
+fn unused_arguments_are_not_checked() {
     assert_eq!(unpack(argb(false, true), &hex("00*4"), (0, 3), (1, 1)), outcome(Ok(3), "-", "00*3"));
     assert_eq!(unpack(argb(false, false), &hex("00*2"), (0, 3), (1, 1)).0, Err(Refusal::InvalidUncompressedDataSize));
     assert_eq!(unpack(argb(false, false), &hex("00*3"), (0, 2), (1, 1)).0, Err(Refusal::ShortImage));
@@ -174,7 +175,7 @@ fn what_is_not_looked_at_is_not_refused() {
     }
 }
 
-/// After 7, 8 and 9 the planes before are complete, the refused one has its earlier segments, and the image is as it was.
+/// After 7, 8 and 9 the planes before are complete, the refused one has its earlier segments, and the image is unchanged.
 #[test]
 fn refused_planes_leave_what_is_before_them() {
     let missing = Refusal::ReadCompressedData;
@@ -197,7 +198,7 @@ fn refused_planes_leave_what_is_before_them() {
         (true, "10 01 00 00", zero, "01 EE*5"),
         (true, "30 01 02 03", wide, "EE*6"),
         (true, "10 01 20 02", missing, "01 EE*5"),
-        // The first colour plane over alpha: what it did not write still holds that.
+        // The first colour plane over alpha: the part that it did not write still has alpha.
         (true, "20 01 02 00", zero, "01 02 EE*4"),
         (true, "20 01 02 10 03 00", zero, "03 02 EE*4"),
         (true, "20 01 02 10 03", missing, "03 02 EE*4"),
@@ -220,7 +221,7 @@ fn refused_rows_of_a_plane_are_coded_values() {
 }
 
 #[test]
-fn threads_do_not_meet() {
+fn threads_do_not_affect_each_other() {
     std::thread::scope(|scope| {
         for seed in 1..=4_u8 {
             scope.spawn(move || {

@@ -1,25 +1,25 @@
-//! Planes, both ways. The expected results are written from docs/FORMAT.md.
+//! Packing and unpacking planes. The expected results are written from docs/FORMAT.md.
 
 mod support;
 
 use rdp6::{compress_8bpp_plane, decompress_8bpp_plane, Refusal};
-use support::{hex, Lent, Noise, REFUSED_SIDES};
+use support::{hex, Guarded, Noise, REFUSED_SIDES};
 
 /// Unpacks into a destination of `EE`: the answer, and the destination after the call.
 fn unpack(body: &[u8], room: usize, width: usize, height: usize) -> (Result<usize, Refusal>, Vec<u8>) {
-    let mut dst = Lent::filled(0xEE, room);
-    let answer = decompress_8bpp_plane(body, dst.lend(), width, height);
+    let mut dst = Guarded::filled(0xEE, room);
+    let answer = decompress_8bpp_plane(body, dst.slice(), width, height);
     (answer, dst.after().to_vec())
 }
 
-/// The same of packing.
+/// The same for packing.
 fn pack(samples: &[u8], room: usize, width: usize, height: usize) -> (Result<usize, Refusal>, Vec<u8>) {
-    let mut dst = Lent::filled(0xEE, room);
-    let answer = compress_8bpp_plane(samples, dst.lend(), width, height);
+    let mut dst = Guarded::filled(0xEE, room);
+    let answer = compress_8bpp_plane(samples, dst.slice(), width, height);
     (answer, dst.after().to_vec())
 }
 
-/// Document 01's examples 1 to 11 and 14, which hold in both directions: width, height, samples, packing.
+/// Examples 1 to 11 and 14 of FORMAT 10, for packing and for unpacking: width, height, samples, packing.
 const EXAMPLES: [(usize, usize, &str, &str); 12] = [
     (1, 1, "05", "10 05"),
     (4, 1, "07*4", "13 07"),
@@ -51,7 +51,7 @@ fn examples_are_packed() {
     }
 }
 
-/// One byte more of each slice: what follows is not read, and not written.
+/// A further byte of each slice is neither read nor written.
 #[test]
 fn slices_may_be_longer() {
     for (width, height, samples, packed) in EXAMPLES {
@@ -65,9 +65,9 @@ fn slices_may_be_longer() {
     }
 }
 
-/// Examples 12 and 13.
+/// Examples 12 and 13 of FORMAT 10.
 #[test]
-fn examples_of_unpacking_alone() {
+fn examples_of_unpacking() {
     assert_eq!(unpack(&hex("03"), 3, 3, 1), (Ok(1), hex("00*3")));
     assert_eq!(unpack(&hex("04"), 3, 3, 1), (Err(Refusal::SegmentDoNotFitScanline), hex("EE*3")));
     assert_eq!(unpack(&hex("00"), 3, 3, 1), (Err(Refusal::InvalidSegmentHeader), hex("EE*3")));
@@ -76,16 +76,16 @@ fn examples_of_unpacking_alone() {
     assert_eq!(unpack(&hex("21"), 18, 18, 1), (Ok(1), hex("00*18")));
 }
 
-/// After 7, 8 or 9: finished rows, the refused row's earlier segments as coded values, the rest as it was.
+/// After 7, 8 or 9: complete rows, the refused row's earlier segments as coded values, the rest unchanged.
 #[test]
 fn refused_segments_leave_what_is_before_them() {
     let refused = |body: &str, refusal, after: &str| {
         assert_eq!(unpack(&hex(body), 10, 3, 3), (Err(refusal), hex(after)), "{body}");
     };
-    // A row of 1, 2, 3, and of the second, which has one more each, two codes.
+    // A row of 1, 2, 3, and two codes of the second row, whose samples are one larger.
     let (begun, left) = ("30 01 02 03 20 02 02", "01 02 03 02 02 EE*5");
-    // The same with the second row whole.
-    let (whole, rows) = ("30 01 02 03 30 02 02 02", "01 02 03 02 03 04 EE*4");
+    // The same with the second row complete.
+    let (complete, rows) = ("30 01 02 03 30 02 02 02", "01 02 03 02 03 04 EE*4");
     for (end, refusal) in [
         ("", Refusal::ReadCompressedData),
         ("00", Refusal::InvalidSegmentHeader),
@@ -98,14 +98,14 @@ fn refused_segments_leave_what_is_before_them() {
         ("13 05", Refusal::SegmentDoNotFitScanline),
     ] {
         refused(&format!("{begun} {end}"), refusal, left);
-        refused(&format!("{whole} {end}"), refusal, rows);
+        refused(&format!("{complete} {end}"), refusal, rows);
     }
     refused(&format!("{begun} 20 05 05"), Refusal::SegmentDoNotFitScanline, left);
-    refused(&format!("{whole} 20 05 05"), Refusal::ReadCompressedData, "01 02 03 02 03 04 05 05 EE*2");
+    refused(&format!("{complete} 20 05 05"), Refusal::ReadCompressedData, "01 02 03 02 03 04 05 05 EE*2");
 }
 
 #[test]
-fn unpacking_tests_in_order() {
+fn unpacking_checks_in_order() {
     let bodies = ["-", "00", "50 01", "04", "30 01 02 03"].map(hex);
     for body in &bodies {
         for (width, height, refusal) in REFUSED_SIDES {
@@ -121,7 +121,7 @@ fn unpacking_tests_in_order() {
 }
 
 #[test]
-fn packing_tests_in_order() {
+fn packing_checks_in_order() {
     for source in [0, 1, 3] {
         for (width, height, refusal) in REFUSED_SIDES {
             for room in [0, 1, 3] {
@@ -139,7 +139,7 @@ fn packing_tests_in_order() {
     assert_eq!(pack(&[5; 6], 8, 3, 2), (Ok(8), hex("30 05 05 05 30 00 00 00")));
 }
 
-/// 8,192 is within, and needs all its room.
+/// Sides of 8,192 are allowed, with slices of the minimum sizes.
 #[test]
 fn the_largest_sides() {
     for (width, height) in [(8192, 1), (1, 8192)] {
@@ -152,15 +152,15 @@ fn the_largest_sides() {
     assert_eq!(pack(&[0; 8192], 2 * 8192, 1, 8192).0, Ok(2 * 8192));
 }
 
-/// A plane whose packing was worked out by the rules of FORMAT 5: for each row its samples, and its segments with the coded values that
-/// they stand for.
+/// A plane whose packing was derived by the rules of FORMAT 5: for each row its samples, and its segments with the coded values that they
+/// stand for.
 struct Worked {
     width: usize,
     rows: &'static [(&'static str, &'static [(&'static str, &'static str)])],
 }
 
 const WORKED: [Worked; 3] = [
-    // Example 14.
+    // Example 14 of FORMAT 10.
     Worked {
         width: 17,
         rows: &[("09*17", &[("1F 09", "09*16"), ("10 09", "09")]), ("0A*17", &[("1F 02", "02*16"), ("10 02", "02")])],
@@ -202,7 +202,7 @@ impl Worked {
         self.rows.iter().flat_map(|(_, segments)| segments.iter().flat_map(|(bytes, _)| hex(bytes))).collect()
     }
 
-    /// What a destination holds after the first `m` bytes: whole rows, then the whole segments of the next.
+    /// The destination after unpacking the first `m` bytes: the complete rows, then the complete segments of the next row.
     fn after(&self, m: usize, before: &[u8]) -> Vec<u8> {
         let mut left = m;
         let mut written = Vec::new();
@@ -222,8 +222,8 @@ impl Worked {
             }
             break;
         }
-        let untouched = &before[written.len()..];
-        [&written, untouched].concat()
+        let unchanged = &before[written.len()..];
+        [&written, unchanged].concat()
     }
 }
 
@@ -239,24 +239,24 @@ fn worked_planes_are_packed_with_every_room() {
         let ends: Vec<usize> = ends.collect();
         assert_eq!(samples.len(), plane.width * height);
         for room in 0..packing.len() + 2 {
-            let whole = ends.iter().copied().filter(|end| *end <= room).max().unwrap_or(0);
-            let answer = if whole == packing.len() { Ok(whole) } else { Err(Refusal::BufferTooSmall) };
-            let expected = [&packing[..whole], &vec![0xEE; room - whole]].concat();
+            let written = ends.iter().copied().filter(|end| *end <= room).max().unwrap_or(0);
+            let answer = if written == packing.len() { Ok(written) } else { Err(Refusal::BufferTooSmall) };
+            let expected = [&packing[..written], &vec![0xEE; room - written]].concat();
             assert_eq!(pack(&samples, room, plane.width, height), (answer, expected), "room {room}");
         }
     }
 }
 
-/// Demand 3, at every cut, into destinations that are exact and longer, whatever they held.
+/// The prefix theorem (FORMAT 9) for every prefix, with destinations of the minimum size and longer ones, filled with several values.
 #[test]
-fn worked_planes_are_unpacked_at_every_cut() {
+fn every_prefix_of_worked_planes_is_unpacked() {
     for plane in &WORKED {
         let packing = plane.packing();
         let (area, height) = (plane.samples().len(), plane.rows.len());
         for m in 0..=packing.len() {
             for (fill, room) in [(0xEE, area), (0x00, area), (0x11, area + 1), (0xEE, area + 50)] {
-                let mut dst = Lent::filled(fill, room);
-                let answer = decompress_8bpp_plane(&packing[..m], dst.lend(), plane.width, height);
+                let mut dst = Guarded::filled(fill, room);
+                let answer = decompress_8bpp_plane(&packing[..m], dst.slice(), plane.width, height);
                 let expected = if m == packing.len() { Ok(m) } else { Err(Refusal::ReadCompressedData) };
                 assert_eq!(answer, expected, "{m} bytes");
                 assert_eq!(dst.after(), plane.after(m, &vec![fill; room]), "{m} bytes");
@@ -269,7 +269,7 @@ fn worked_planes_are_unpacked_at_every_cut() {
     }
 }
 
-/// Whatever the samples are, they come back, and the answer is the packing's length, whatever follows. Two bytes a sample are enough.
+/// Unpacking returns the samples that were packed and the packing's length, whatever follows it. Two bytes a sample are enough.
 #[test]
 fn round_trips() {
     let mut noise = Noise(0x9E37_79B9_7F4A_7C15);
@@ -284,9 +284,10 @@ fn round_trips() {
     }
 }
 
-/// Demand 3 in short: every cut gives 7, and every byte behind the first that is not the plane's is as it was.
+/// A part of the prefix theorem, for random planes: every shorter prefix is refusal 7, its complete rows are unpacked, and what follows the next
+/// row is unchanged.
 #[test]
-fn round_trips_cut_at_every_byte() {
+fn every_prefix_of_random_planes_is_unpacked() {
     let mut noise = Noise(0xD1B5_4A32_D192_ED03);
     for _ in 0..60 {
         let (width, height) = (1 + noise.below(40) as usize, 1 + noise.below(5) as usize);
@@ -294,20 +295,20 @@ fn round_trips_cut_at_every_byte() {
         let (answer, packed) = pack(&samples, 2 * width * height, width, height);
         let n = answer.unwrap();
         for m in 0..n {
-            let (cut, dst) = unpack(&packed[..m], width * height, width, height);
-            assert_eq!(cut, Err(Refusal::ReadCompressedData));
-            // The packing of the first rows is the beginning of the packing of all.
-            let whole =
+            let (answer, dst) = unpack(&packed[..m], width * height, width, height);
+            assert_eq!(answer, Err(Refusal::ReadCompressedData));
+            // The packing of the first rows is a prefix of the packing of the plane.
+            let complete =
                 (1..height).filter(|rows| pack(&samples, 2 * width * height, width, *rows).0.unwrap() <= m).count();
-            assert_eq!(dst[..whole * width], samples[..whole * width]);
-            let behind = ((whole + 1) * width).min(dst.len());
+            assert_eq!(dst[..complete * width], samples[..complete * width]);
+            let behind = ((complete + 1) * width).min(dst.len());
             assert!(dst[behind..].iter().all(|byte| *byte == 0xEE));
         }
     }
 }
 
 #[test]
-fn threads_do_not_meet() {
+fn threads_do_not_affect_each_other() {
     std::thread::scope(|scope| {
         for seed in 1..=4 {
             scope.spawn(move || {

@@ -61,7 +61,7 @@ fn a_refusal_is_an_error_that_can_be_sent_to_another_thread() {
     assert!(error.source().is_none());
 }
 
-/// A service that names IronRDP's errors, by their paths there.
+/// A service that uses the names of IronRDP's errors, with IronRDP's paths.
 mod service {
     use rdp6::bitmap_stream::decoder::BitmapDecodeError;
     use rdp6::bitmap_stream::encoder::BitmapEncodeError;
@@ -86,7 +86,7 @@ mod service {
 }
 
 #[test]
-fn the_names_of_the_original_can_be_used() {
+fn the_names_of_ironrdp_can_be_used() {
     assert_eq!(service::plane(&[0x10, 5], &mut [0]), Ok(2));
     assert_eq!(service::picture(&[0]).map_err(service::is_bad_control), Err(true));
     assert_eq!(service::no_room(), (Refusal::BufferTooSmall, Refusal::BufferTooSmall));

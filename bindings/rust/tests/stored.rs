@@ -1,5 +1,5 @@
-//! The stored cases of crates/vectors/data through the functions of this crate: most are IronRDP's answers, the rest is written from
-//! docs/FORMAT.md. docs/TESTS.md has what they are, differential/README.md what a line is.
+//! The stored cases of crates/vectors/data, called through the functions of this crate. Most of the expected answers are IronRDP's, the rest
+//! is written from docs/FORMAT.md. docs/TESTS.md describes the cases, differential/README.md the form of a line.
 
 mod support;
 
@@ -10,13 +10,13 @@ use rdp6::{
     compress_8bpp_plane, decode, decompress_8bpp_plane, BgrAChannels, BitmapStreamDecoder, BitmapStreamEncoder,
     Encoded, Refusal,
 };
-use support::{argb, aycocg, hex, Lent};
+use support::{argb, aycocg, hex, Guarded};
 
 /// The cases of a file, as fields.
 fn for_each_case(file: &str, mut check: impl FnMut(&[&str])) {
     let path = Path::new(env!("CARGO_MANIFEST_DIR")).join("../../crates/vectors/data").join(file);
     let text = fs::read_to_string(&path).unwrap_or_else(|why| {
-        panic!("{} cannot be read: {why}. This test needs the whole repository.", path.display())
+        panic!("{} cannot be read: {why}. This test needs the complete repository.", path.display())
     });
     let cases = text.lines().filter(|line| !line.starts_with('#') && !line.is_empty());
     let mut count = 0;
@@ -35,7 +35,7 @@ fn flag(field: &str) -> bool {
     field == "1"
 }
 
-/// A count, or minus the number of a refusal.
+/// A number of bytes, or the negated number of a refusal.
 fn answer(field: &str) -> Result<usize, Refusal> {
     match field.strip_prefix('-') {
         None => Ok(number(field)),
@@ -47,8 +47,8 @@ type Plane = fn(&[u8], &mut [u8], usize, usize) -> Result<usize, Refusal>;
 
 /// WIDTH HEIGHT ROOM ANSWER SOURCE AFTER
 fn check_plane(function: Plane, case: &[&str]) {
-    let mut dst = Lent::filled(0xEE, number(case[2]));
-    let result = function(&hex(case[4]), dst.lend(), number(case[0]), number(case[1]));
+    let mut dst = Guarded::filled(0xEE, number(case[2]));
+    let result = function(&hex(case[4]), dst.slice(), number(case[0]), number(case[1]));
     assert_eq!(result, answer(case[3]), "{case:?}");
     assert_eq!(dst.after(), hex(case[5]), "{case:?}");
 }
@@ -67,18 +67,18 @@ fn planes_packed() {
     }
 }
 
-/// WIDTH HEIGHT END ROOM ANSWER SAMPLES AFTER: the samples are packed into 20,000 bytes `C7`, and the first END of these unpacked.
+/// WIDTH HEIGHT END ROOM ANSWER SAMPLES AFTER: the samples are packed into a slice of 20,000 bytes `C7`, and its first END bytes are unpacked.
 #[test]
-fn round_trips_cut() {
-    for_each_case("demand-3.txt", |case| {
+fn prefixes_unpacked() {
+    for_each_case("prefixes.txt", |case| {
         if case[4] == "-0" {
-            return; // an END over the 20,000, of which there is no slice
+            return; // an END over 20,000: there is no such slice
         }
         let (width, height, end) = (number(case[0]), number(case[1]), number(case[2]));
         let mut packed = vec![0xC7; 20_000];
-        let mut dst = Lent::filled(0xEE, number(case[3]));
+        let mut dst = Guarded::filled(0xEE, number(case[3]));
         let result = compress_8bpp_plane(&hex(case[5]), &mut packed, width, height)
-            .and_then(|_| decompress_8bpp_plane(&packed[..end], dst.lend(), width, height));
+            .and_then(|_| decompress_8bpp_plane(&packed[..end], dst.slice(), width, height));
         assert_eq!(result, answer(case[4]), "{case:?}");
         assert_eq!(dst.after(), hex(case[6]), "{case:?}");
     });
@@ -87,17 +87,17 @@ fn round_trips_cut() {
 /// WIDTH HEIGHT RLE ALPHA DEFINITION LEVEL SUBSAMPLED WORKROOM IMAGEROOM ANSWER BODY WORK-AFTER IMAGE-AFTER
 fn check_picture(decoder: &mut BitmapStreamDecoder, case: &[&str]) {
     let (width, height, rle, alpha) = (number(case[0]), number(case[1]), flag(case[2]), flag(case[3]));
-    let header = match case[4] {
-        "0" => argb(rle, alpha),
-        "1" => aycocg(rle, alpha, number(case[5]) as u8, flag(case[6])),
-        _ => return, // a definition that only C can say
+    let header = match (case[4], u8::try_from(number(case[5]))) {
+        ("0", _) => argb(rle, alpha),
+        ("1", Ok(level)) => aycocg(rle, alpha, level, flag(case[6])),
+        _ => return, // an unknown definition, or a level over 255: only C can pass them
     };
     let (expected, body) = (answer(case[9]), hex(case[10]));
-    let (mut work, mut image) = (Lent::filled(0xEE, number(case[7])), Lent::filled(0xEE, number(case[8])));
-    assert_eq!(decode(header, &body, work.lend(), image.lend(), width, height), expected, "{case:?}");
+    let (mut work, mut image) = (Guarded::filled(0xEE, number(case[7])), Guarded::filled(0xEE, number(case[8])));
+    assert_eq!(decode(header, &body, work.slice(), image.slice(), width, height), expected, "{case:?}");
     assert_eq!(work.after(), hex(case[11]), "{case:?}");
     assert_eq!(image.after(), hex(case[12]), "{case:?}");
-    // The decoder makes its own room, so that it gets past 5 and 6.
+    // The decoder allocates both buffers, so that it never returns 5 or 6.
     if !matches!(expected, Err(Refusal::ShortWork | Refusal::ShortImage)) {
         let mut dst = vec![0x77];
         let result = decoder.decode_body_to_rgb24(header, &body, &mut dst, width, height);
@@ -114,7 +114,7 @@ fn pictures_unpacked() {
     }
 }
 
-/// What is expected of packing: ANSWER SENTRLE SENTALPHA SENTDEFINITION.
+/// The expected answer of packing: ANSWER SENTRLE SENTALPHA SENTDEFINITION.
 fn encoded(fields: &[&str]) -> Result<Encoded, Refusal> {
     assert_eq!(fields[3], "0", "the definition to send is ARGB");
     answer(fields[0]).map(|bytes| Encoded { bytes, header: argb(flag(fields[1]), flag(fields[2])) })
@@ -126,12 +126,12 @@ fn channels_packed() {
     for file in ["channels-pack.txt", "examples-channels.txt", "refusals-channels.txt"] {
         for_each_case(file, |case| {
             let mut encoder = BitmapStreamEncoder::new(number(case[0]), number(case[1]));
-            let (rle, mut dst) = (flag(case[2]), Lent::filled(0xEE, number(case[4])));
+            let (rle, mut dst) = (flag(case[2]), Guarded::filled(0xEE, number(case[4])));
             let (r, g, b) = (hex(case[9]), hex(case[10]), hex(case[11]));
             let result = if flag(case[3]) {
-                encoder.encode_channels_stream_alpha((r, g, b, hex(case[12])), dst.lend(), rle)
+                encoder.encode_channels_stream_alpha((r, g, b, hex(case[12])), dst.slice(), rle)
             } else {
-                encoder.encode_channels_stream((r, g, b), dst.lend(), rle)
+                encoder.encode_channels_stream((r, g, b), dst.slice(), rle)
             };
             assert_eq!(result, encoded(&case[5..9]), "{case:?}");
             assert_eq!(dst.after(), hex(case[13]), "{case:?}");
@@ -145,12 +145,12 @@ fn pixels_packed() {
     for file in ["bitmap-pack.txt", "examples-bitmap.txt", "refusals-bitmap.txt"] {
         for_each_case(file, |case| {
             let mut encoder = BitmapStreamEncoder::new(number(case[0]), number(case[1]));
-            let (rle, mut dst) = (flag(case[2]), Lent::filled(0xEE, number(case[4])));
+            let (rle, mut dst) = (flag(case[2]), Guarded::filled(0xEE, number(case[4])));
             let pixels = hex(case[9]);
             let result = if flag(case[3]) {
-                encoder.encode_bitmap_alpha::<BgrAChannels>(&pixels, dst.lend(), rle)
+                encoder.encode_bitmap_alpha::<BgrAChannels>(&pixels, dst.slice(), rle)
             } else {
-                encoder.encode_bitmap::<BgrAChannels>(&pixels, dst.lend(), rle)
+                encoder.encode_bitmap::<BgrAChannels>(&pixels, dst.slice(), rle)
             };
             assert_eq!(result, encoded(&case[5..9]), "{case:?}");
             assert_eq!(dst.after(), hex(case[10]), "{case:?}");

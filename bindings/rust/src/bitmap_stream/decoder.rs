@@ -11,7 +11,10 @@ use crate::{BitmapStreamHeader, Refusal};
 pub type BitmapDecodeError = Refusal;
 
 /// Unpacks a picture from its body, which is what follows the header byte, into the first 3 × `width` × `height` bytes of `image`: R, G and
-/// B of each pixel, row by row. Returns that number. Nothing is allocated.
+/// B of each pixel, row by row. Returns that number. Nothing is allocated, and no slice needs an alignment.
+///
+/// The first row in the body is the first row of the image ([row order](crate#row-order)). A body of four planes is unpacked with `use_alpha`
+/// as true; alpha is not part of the image.
 ///
 /// An RLE picture is unpacked into `work`, which then has its three colour planes one after the other; [`work_size`] is its minimum length.
 /// A raw picture does not use `work`, which may be empty. Bytes of both slices behind what is written are unchanged, and what follows the
@@ -41,7 +44,7 @@ pub type BitmapDecodeError = Refusal;
 /// |---|---|---|
 /// | 1 | `width` or `height` is 0 | unchanged |
 /// | 2 | `width` or `height` is over 8,192 | unchanged |
-/// | 3 | AYCoCg with loss level 0 or over 7 | unchanged |
+/// | 3 | AYCoCg with a loss level other than 1 to 7 | unchanged |
 /// | 4 | `body` is shorter than its minimum size | unchanged |
 /// | 5 | `work` is shorter than [`work_size`] (RLE only) | unchanged |
 /// | 6 | `image` is shorter than [`image_size`] | unchanged |
@@ -127,6 +130,13 @@ pub struct BitmapStreamDecoder {
     planes_buffer: Vec<u8>,
 }
 
+/// The clone has an empty work area: what is in a work area means nothing to the next picture.
+impl Clone for BitmapStreamDecoder {
+    fn clone(&self) -> Self {
+        Self::default()
+    }
+}
+
 /// Shows the length of the work area, not its bytes.
 impl fmt::Debug for BitmapStreamDecoder {
     fn fmt(&self, f: &mut fmt::Formatter<'_>) -> fmt::Result {
@@ -136,7 +146,8 @@ impl fmt::Debug for BitmapStreamDecoder {
 }
 
 impl BitmapStreamDecoder {
-    /// Unpacks a picture from its body and appends R, G and B of each pixel, row by row, to `dst`.
+    /// Unpacks a picture from its body and appends R, G and B of each pixel, row by row, to `dst`. The first row in the body is the first row
+    /// of the image ([row order](crate#row-order)).
     ///
     /// IronRDP's `decode_bitmap_stream_to_rgb24` reads the header byte first. Here the caller does, and passes what it says as `header` and
     /// the bytes behind it as `body`, with or without the pad byte at the end of a raw stream.
@@ -155,12 +166,12 @@ impl BitmapStreamDecoder {
     ///
     /// # Errors
     ///
-    /// 1, 2, 3, 4, 7, 8 and 9, as [`decode`] has them and in its order; never 5 or 6, since both areas get their minimum
-    /// lengths. `dst` is unchanged by every one of them, and nothing is allocated before the first four are checked.
+    /// 1, 2, 3, 4, 7, 8 and 9, as [`decode`] has them and in its order; never 5 or 6, since the work area and the image get their minimum
+    /// lengths. No refusal changes `dst`, and nothing is allocated before the first four are checked.
     ///
     /// # Aborts
     ///
-    /// If memory runs out, as every `Vec` does. The image has at most 201,326,592 bytes, and so has the work area.
+    /// If memory runs out, as every `Vec` does. The image has at most 201,326,592 bytes, and the work area too.
     pub fn decode_body_to_rgb24(
         &mut self,
         header: BitmapStreamHeader,
@@ -189,10 +200,58 @@ impl BitmapStreamDecoder {
     }
 }
 
-/// Refusals 1 to 4, before anything is allocated. The library checks them: with an empty work area and an empty image the next refusal is 5 or 6.
+/// Refusals 1 to 4, before anything is allocated. With an empty work area and an empty image the library's next refusal is 5 or 6.
 fn check_arguments(header: BitmapStreamHeader, body: &[u8], width: usize, height: usize) -> Result<(), Refusal> {
     match decode(header, body, &mut [], &mut [], width, height) {
         Err(Refusal::ShortWork | Refusal::ShortImage) => Ok(()),
         answer => answer.map(|_| ()),
+    }
+}
+
+#[cfg(test)]
+mod tests {
+    use std::ptr;
+
+    use super::*;
+
+    /// The answer for a raw picture of one pixel.
+    fn answer(definition: u32, level: u32) -> i64 {
+        let (body, mut image) = ([1, 2, 3], [0; 3]);
+        // SAFETY: the arrays are valid for the call with these lengths and do not overlap; the length of the null pointer is 0.
+        unsafe {
+            ffi::rdp6_decode(
+                false,
+                false,
+                definition,
+                level,
+                false,
+                body.as_ptr(),
+                body.len(),
+                ptr::null_mut(),
+                0,
+                image.as_mut_ptr(),
+                image.len(),
+                1,
+                1,
+            )
+        }
+    }
+
+    /// A definition or a loss level is refused also if its last byte is an allowed number.
+    #[test]
+    fn definitions_and_levels_have_32_bits() {
+        for level in 1..=7 {
+            assert_eq!(answer(1, level), 3, "level {level}");
+        }
+        for level in [0, 8, 255, 256, 257, 263, 0x1_0001, u32::MAX] {
+            assert_eq!(answer(1, level), -3, "level {level}");
+            assert_eq!(answer(0, level), 3, "ARGB, level {level}");
+        }
+        for definition in [2, 255, 256, 257, 0x1_0000, 0x1_0001, u32::MAX] {
+            assert_eq!(answer(definition, 1), -3, "definition {definition}");
+            // SAFETY: the function takes only numbers.
+            let size = unsafe { ffi::rdp6_work_size(true, definition, true, 3, 2) };
+            assert_eq!(size, 6 + 2 * 2, "definition {definition}");
+        }
     }
 }

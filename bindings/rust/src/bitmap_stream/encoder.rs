@@ -20,7 +20,7 @@ mod sealed {
     }
 }
 
-/// The offsets of the colours in a pixel. The library has its layouts built in, so no other type can implement this:
+/// The offsets of the colours in a pixel. The library has its layouts built in, so a service cannot implement this for a type of its own:
 ///
 /// ```compile_fail
 /// struct Own;
@@ -89,8 +89,8 @@ pub struct Encoded {
     pub bytes: usize,
     /// The record for the header byte: RLE as asked for, ARGB, no alpha.
     ///
-    /// With four planes too the alpha flag is false, as IronRDP sends it, although MS-RDPEGDI asks for it. A sender should set `use_alpha` for
-    /// four planes: without it a decoder takes A for R, R for G and G for B.
+    /// **Four planes.** The alpha flag here is false for them too, as IronRDP sends it. A sender sets `use_alpha` (header byte `0x10` for RLE,
+    /// `0x00` for raw), as MS-RDPEGDI asks: without it a receiver takes A for R, R for G and G for B.
     pub header: BitmapStreamHeader,
 }
 
@@ -107,20 +107,18 @@ impl Encoded {
 
 /// Packs pictures of one width and height.
 ///
-/// Its methods write the body of a picture to the start of `dst`; the bytes behind it are unchanged. Unlike IronRDP's **they write no header
-/// byte**. The caller writes it, and may leave room for it:
+/// Its methods write the body of a picture to the start of `dst`; the bytes behind it are unchanged. Nothing is allocated, and no slice needs an
+/// alignment. The first row of the source is the first row in the body ([row order](crate#row-order)). Unlike IronRDP's methods **they write
+/// no header byte**. The caller writes it, and may leave room for it:
 ///
 /// ```
 /// use rdp6::{BgrAChannels, BitmapStreamEncoder};
 ///
-/// let header_byte = |header: rdp6::BitmapStreamHeader| -> u8 {
-///     // the service's own, by MS-RDPEGDI 2.2.2.5.1
-/// #   0x20 | u8::from(header.enable_rle_compression) << 4
-/// };
+/// # let header_byte = |header: rdp6::BitmapStreamHeader| 0x20 | u8::from(header.enable_rle_compression) << 4;
 /// let pixels = [7; 4 * 4 * 2];
 /// let mut stream = [0; 1 + 6 * 4 * 2];
 /// let packed = BitmapStreamEncoder::new(4, 2).encode_bitmap::<BgrAChannels>(&pixels, &mut stream[1..], true)?;
-/// stream[0] = header_byte(packed.header);
+/// stream[0] = header_byte(packed.header); // as in the example of BitmapStreamHeader
 /// let stream = &stream[..1 + packed.bytes];
 /// # assert_eq!(stream, [0x30, 0x13, 7, 0x13, 0, 0x13, 7, 0x13, 0, 0x13, 7, 0x13, 0]);
 /// # Ok::<(), rdp6::Refusal>(())
@@ -132,7 +130,7 @@ impl Encoded {
 ///
 /// # Errors
 ///
-/// All four methods give these, in the order in which they are tested:
+/// All four methods return these, in the order in which they are checked:
 ///
 /// | Number | Condition | `dst` |
 /// |---|---|---|
@@ -202,7 +200,8 @@ impl BitmapStreamEncoder {
         Encoded::of(answer, rle)
     }
 
-    /// The same with an alpha plane, which is the first: A, R, G, B. See [`Encoded::header`] for the alpha flag.
+    /// The same with an alpha plane, which is the first: A, R, G, B. A sender of four planes sets the alpha flag (header byte `0x10` for RLE,
+    /// `0x00` for raw); whoever unpacks passes `use_alpha` as true.
     ///
     /// ```
     /// let (r, g, b, a) = ([1], [2], [3], [255]);
@@ -272,7 +271,8 @@ impl BitmapStreamEncoder {
         self.encode_pixels(F::ENCODE_BITMAP, src, dst, rle)
     }
 
-    /// The same with alpha: A, R, G, B. See [`Encoded::header`] for the alpha flag.
+    /// The same with alpha: A, R, G, B. A sender of four planes sets the alpha flag (header byte `0x10` for RLE, `0x00` for raw); whoever
+    /// unpacks passes `use_alpha` as true.
     ///
     /// ```
     /// use rdp6::{BgrAChannels, BitmapStreamEncoder};

@@ -1,5 +1,5 @@
-//! What the tests share: bytes written short, slices that are parts of larger ones, headers, the order of refusals.
-#![allow(dead_code)] // each test takes a part
+//! Shared by the tests: bytes written in hexadecimal, slices with guard bytes, headers, the order of refusals, random samples.
+#![allow(dead_code)] // no test uses all of it
 
 use rdp6::{BitmapStreamHeader, ColorPlaneDefinition, Refusal};
 
@@ -16,40 +16,41 @@ pub fn hex(text: &str) -> Vec<u8> {
     bytes
 }
 
-const AROUND: usize = 40;
+const GUARDS: usize = 40;
 
-/// What is around a slice that a function gets. It changes from byte to byte, so that a moved byte is seen too.
-fn around(i: usize) -> u8 {
+/// The guard bytes before and behind a slice. They differ from byte to byte, so that a byte written to another place is found too.
+fn guard(i: usize) -> u8 {
     (i * 37 % 251) as u8 ^ 0x5A
 }
 
-/// Bytes that are a part of a larger buffer.
-pub struct Lent {
+/// Bytes between guard bytes.
+pub struct Guarded {
     all: Vec<u8>,
 }
 
-impl Lent {
-    pub fn of(bytes: &[u8]) -> Lent {
-        let before = (0..AROUND).map(around);
-        Lent { all: before.clone().chain(bytes.iter().copied()).chain(before).collect() }
+impl Guarded {
+    pub fn of(bytes: &[u8]) -> Guarded {
+        let guards = (0..GUARDS).map(guard);
+        Guarded { all: guards.clone().chain(bytes.iter().copied()).chain(guards).collect() }
     }
 
-    pub fn filled(byte: u8, length: usize) -> Lent {
-        Lent::of(&vec![byte; length])
+    pub fn filled(byte: u8, length: usize) -> Guarded {
+        Guarded::of(&vec![byte; length])
     }
 
-    pub fn lend(&mut self) -> &mut [u8] {
-        let end = self.all.len() - AROUND;
-        &mut self.all[AROUND..end]
+    /// The bytes for a call.
+    pub fn slice(&mut self) -> &mut [u8] {
+        let end = self.all.len() - GUARDS;
+        &mut self.all[GUARDS..end]
     }
 
-    /// The bytes, once it is seen that nothing around them has changed.
+    /// The bytes after a call, which must not have changed the guard bytes.
     pub fn after(&self) -> &[u8] {
-        let end = self.all.len() - AROUND;
-        let untouched = |bytes: &[u8]| bytes.iter().enumerate().all(|(i, byte)| *byte == around(i));
-        assert!(untouched(&self.all[..AROUND]), "written before the slice");
-        assert!(untouched(&self.all[end..]), "written behind the slice");
-        &self.all[AROUND..end]
+        let end = self.all.len() - GUARDS;
+        let unchanged = |bytes: &[u8]| bytes.iter().enumerate().all(|(i, byte)| *byte == guard(i));
+        assert!(unchanged(&self.all[..GUARDS]), "written before the slice");
+        assert!(unchanged(&self.all[end..]), "written behind the slice");
+        &self.all[GUARDS..end]
     }
 }
 
@@ -63,7 +64,7 @@ pub fn aycocg(rle: bool, alpha: bool, color_loss_level: u8, use_chroma_subsampli
     BitmapStreamHeader { enable_rle_compression: rle, use_alpha: alpha, color_plane_definition }
 }
 
-/// Document 01: "width or height is 0" is tested before "width or height is over 8,192", and both before all others.
+/// Sides with their refusal. FORMAT 8.2: refusal 1 comes before refusal 2, and both before all others.
 pub const REFUSED_SIDES: [(usize, usize, Refusal); 16] = [
     (0, 1, Refusal::ZeroSize),
     (1, 0, Refusal::ZeroSize),
@@ -76,7 +77,7 @@ pub const REFUSED_SIDES: [(usize, usize, Refusal); 16] = [
     (8193, 1, Refusal::TooLarge),
     (1, 8193, Refusal::TooLarge),
     (8193, 8193, Refusal::TooLarge),
-    // Products that a word cannot hold: 0, 2 and 1 are left of them.
+    // Products that overflow 64 bits: their low bits are 0, 2 and 1.
     (1 << 32, 1 << 32, Refusal::TooLarge),
     ((1 << 63) + 1, 2, Refusal::TooLarge),
     (usize::MAX, usize::MAX, Refusal::TooLarge),
@@ -84,12 +85,12 @@ pub const REFUSED_SIDES: [(usize, usize, Refusal); 16] = [
     (1, usize::MAX, Refusal::TooLarge),
 ];
 
-/// The first cause that is there, in the order given.
-pub fn first<const N: usize>(causes: [(bool, Refusal); N]) -> Option<Refusal> {
-    causes.into_iter().find(|(there, _)| *there).map(|(_, refusal)| refusal)
+/// The refusal of the first condition that is true.
+pub fn first<const N: usize>(conditions: [(bool, Refusal); N]) -> Option<Refusal> {
+    conditions.into_iter().find(|(holds, _)| *holds).map(|(_, refusal)| refusal)
 }
 
-/// Numbers that look random and are the same in every run.
+/// Pseudo-random numbers, the same in every run.
 pub struct Noise(pub u64);
 
 impl Noise {
@@ -104,7 +105,7 @@ impl Noise {
         (self.next() >> 16) % limit
     }
 
-    /// Runs and different values in turn, of a few values or of many.
+    /// Runs of 1 to 100 equal samples, of a few different values or of many.
     pub fn samples(&mut self, count: usize) -> Vec<u8> {
         let values = [2, 5, 256][self.below(3) as usize];
         let mut samples = Vec::new();
