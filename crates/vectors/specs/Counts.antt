@@ -1,4 +1,4 @@
--- How many bytes a reader of bytes wrote, which bounds the part that its caller may pass on. Of malformed text it is none. Assumes nothing.
+-- How many bytes `next_bytes` and `expand` wrote to the caller's slice, 0 for a malformed field. Assumes nothing.
 use Prim.Native.Nat.{ℕ}
 use Rattle.vectors.specs.declared.read.Bytes.{Bytes}
 use Rattle.vectors.specs.declared.read.Bytes.the-variants as bytes
@@ -9,6 +9,6 @@ abbrev pub countOf : Bytes → ℕ
 countOf (bytes.Value count next) = count
 countOf bytes.Malformed = 0
 
-abbrev pub expandedTo : Expanded → ℕ
-expandedTo (expanded.Count count) = count
-expandedTo expanded.Malformed = 0
+abbrev pub expandedCount : Expanded → ℕ
+expandedCount (expanded.Count count) = count
+expandedCount expanded.Malformed = 0

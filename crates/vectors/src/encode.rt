@@ -1,35 +1,35 @@
-// Replays one case of packing a picture, given on one line, from its channels or from its pixels:
+// Replays one case of packing a picture, from its channels or from its pixels. The case is one line:
 //     WIDTH HEIGHT RLE ALPHA ROOM ANSWER SENTRLE SENTALPHA SENTDEFINITION R G B A AFTER
 //     WIDTH HEIGHT RLE ALPHA ROOM ANSWER SENTRLE SENTALPHA SENTDEFINITION PIXELS AFTER
-// RLE is 0 or 1. ALPHA is 1 for the entry that packs alpha; where it is 0, A is a hyphen. ROOM is the length of the
-// destination, ANSWER the bytes written or minus the refusal's number, AFTER all the destination's bytes afterwards. SENTRLE,
-// SENTALPHA and SENTDEFINITION are the header record that is returned, 0 or 1 each, with 0 for ARGB. A refusal returns
-// none, and then they are ignored. Bytes are as in a plane's line.
-use crate::part;
-use crate::part::MARGIN;
-use crate::part::MOST;
+// RLE is 0 or 1. ALPHA is 1 for the function that packs alpha; if it is 0, A is a hyphen. ROOM is the length of the destination.
+// ANSWER is the number of bytes written, or the negative of a refusal's number. AFTER has all bytes of the destination after the
+// call. SENTRLE, SENTALPHA and SENTDEFINITION are the returned header record (FORMAT 7.5), 0 or 1 each; a SENTDEFINITION of 0 is
+// ARGB. A refusal returns no header record, and they are ignored. Bytes are written as in a plane's line.
+use crate::guarded;
+use crate::guarded::GUARD_SIZE;
+use crate::guarded::MAX_SLICE;
 use crate::picture;
 use crate::plane;
 use crate::read;
 use crate::read::Bytes;
-use crate::read::NUMBERS;
+use crate::read::MAX_NUMBERS;
 use crate::read::Signed;
 use crate::report;
 use crate::report::Answer;
-use crate::report::Outcome;
+use crate::report::LineResult;
 use bitmap_format::BitmapStreamHeader;
 use bitmap_format::ColorPlaneDefinition;
 use bitmap_format::Encoded;
 ghost use Prim.Native.Nat.{_+_, _≤_};
 ghost use lib.ListN.{length};
 
-// What a case packs. All cases of a file pack the same.
-pub(crate) enum Source {
+// What a case packs. It is the same for all cases of a file.
+pub(crate) enum SourceKind {
     Channels,
     Pixels,
 }
 
-// The places of the numbers before the answer, and how many these are.
+// The indexes of the numbers before the answer, and how many there are.
 const WIDTH: usize = 0;
 
 const HEIGHT: usize = 1;
@@ -40,50 +40,50 @@ const ALPHA: usize = 3;
 
 const ROOM: usize = 4;
 
-const BEFORE: usize = 5;
+const COUNT_BEFORE_ANSWER: usize = 5;
 
-// The same of the numbers behind it.
+// The same for the numbers after it.
 const SENT_RLE: usize = 0;
 
 const SENT_ALPHA: usize = 1;
 
 const SENT_DEFINITION: usize = 2;
 
-const BEHIND: usize = 3;
+const COUNT_AFTER_ANSWER: usize = 3;
 
-// The header record that should be returned.
-struct Sent {
+// The header record that a call should return.
+struct ExpectedHeader {
     rle: bool,
     alpha: bool,
     argb: bool,
 }
 
-// The numbers of a case, and the place of the bytes that are given.
+// The numbers of a case, and the index of its first source field.
 struct Case {
-    source: Source,
+    source: SourceKind,
     width: usize,
     height: usize,
     rle: bool,
     alpha: bool,
     room: usize,
     answer: Answer,
-    sent: Sent,
+    header: ExpectedHeader,
     next: usize,
 }
 
-enum Head {
-    Of(Case),
+enum ParsedCase {
+    Value(Case),
     Malformed,
 }
 
-// How many bytes a field stands for, and the place behind it.
+// How many bytes a field has, repeats included, and the index after it.
 struct Field {
     count: usize,
     next: usize,
 }
 
-// The same of the fields that are given. Pixels stand where R does.
-struct Given {
+// The number of bytes of each source field, and the index after the last one. A line of pixels has its number in `r`.
+struct SourceSizes {
     r: usize,
     g: usize,
     b: usize,
@@ -92,17 +92,17 @@ struct Given {
 }
 
 // Replays the case of a line.
-pub(crate) fn replay(source: Source, line: &[u8]) -> Outcome {
-    let Head::Of(case) = read_head(source, line) else {
-        return Outcome::Malformed;
+pub(crate) fn replay(source: SourceKind, line: &[u8]) -> LineResult {
+    let ParsedCase::Value(case) = parse_case(source, line) else {
+        return LineResult::Malformed;
     };
-    let mut r = part::surrounded();
-    let mut g = part::surrounded();
-    let mut b = part::surrounded();
-    let mut a = part::surrounded();
-    let mut dst = part::surrounded();
-    let mut after = part::surrounded();
-    replay_in(
+    let mut r = guarded::new_array();
+    let mut g = guarded::new_array();
+    let mut b = guarded::new_array();
+    let mut a = guarded::new_array();
+    let mut dst = guarded::new_array();
+    let mut after = guarded::new_array();
+    replay_with_buffers(
         case,
         line,
         &mut r,
@@ -110,12 +110,12 @@ pub(crate) fn replay(source: Source, line: &[u8]) -> Outcome {
         &mut b,
         &mut a,
         &mut dst,
-        &mut after[MARGIN..MARGIN + MOST],
+        &mut after[GUARD_SIZE..GUARD_SIZE + MAX_SLICE],
     )
 }
 
-// The same with the case's numbers, and with room for its bytes.
-fn replay_in(
+// The same with the case's numbers, and with buffers for its bytes.
+fn replay_with_buffers(
     case: Case,
     line: &[u8],
     r: &mut [u8],
@@ -124,18 +124,18 @@ fn replay_in(
     a: &mut [u8],
     dst: &mut [u8],
     after: &mut [u8],
-) -> Outcome
+) -> LineResult
     requires { ⌜ length (now after) + 32 ≤ length (now dst) ⌝ }
 {
-    let given = read_given(case, line, r, g, b, a);
-    let last = next_field(line, given.next, after);
-    if !is_whole(case, given.a, last, line) {
-        return Outcome::Malformed;
+    let sources = read_sources(case, line, r, g, b, a);
+    let last = next_field(line, sources.next, after);
+    if !is_complete(case, sources.a, last, line) {
+        return LineResult::Malformed;
     }
-    let r_end = given.r;
-    let g_end = given.g;
-    let b_end = given.b;
-    let a_end = given.a;
+    let r_end = sources.r;
+    let g_end = sources.g;
+    let b_end = sources.b;
+    let a_end = sources.a;
     let room = last.count;
     run(
         case,
@@ -148,27 +148,27 @@ fn replay_in(
     )
 }
 
-// Reads the numbers.
-fn read_head(source: Source, line: &[u8]) -> Head {
-    let mut numbers = [0usize; NUMBERS];
-    let mut sent = [0usize; NUMBERS];
-    let at = read::next_numbers(line, 0, BEFORE, &mut numbers);
-    let Signed::Value { minus, value, next } = read::next_signed(line, at) else {
-        return Head::Malformed;
+// Reads the numbers of a case.
+fn parse_case(source: SourceKind, line: &[u8]) -> ParsedCase {
+    let mut numbers = [0usize; MAX_NUMBERS];
+    let mut sent = [0usize; MAX_NUMBERS];
+    let start = read::next_numbers(line, 0, COUNT_BEFORE_ANSWER, &mut numbers);
+    let Signed::Value { minus, value, next } = read::next_signed(line, start) else {
+        return ParsedCase::Malformed;
     };
-    let end = read::next_numbers(line, next, BEHIND, &mut sent);
+    let end = read::next_numbers(line, next, COUNT_AFTER_ANSWER, &mut sent);
     if !picture::are_flags(
         numbers[RLE],
         numbers[ALPHA],
         sent[SENT_RLE],
         sent[SENT_ALPHA],
     ) {
-        return Head::Malformed;
+        return ParsedCase::Malformed;
     }
     if 1 < sent[SENT_DEFINITION] {
-        return Head::Malformed;
+        return ParsedCase::Malformed;
     }
-    Head::Of(Case {
+    ParsedCase::Value(Case {
         source,
         width: numbers[WIDTH],
         height: numbers[HEIGHT],
@@ -179,7 +179,7 @@ fn read_head(source: Source, line: &[u8]) -> Head {
             refused: minus,
             number: value,
         },
-        sent: Sent {
+        header: ExpectedHeader {
             rle: sent[SENT_RLE] == 1,
             alpha: sent[SENT_ALPHA] == 1,
             argb: sent[SENT_DEFINITION] == 0,
@@ -188,22 +188,22 @@ fn read_head(source: Source, line: &[u8]) -> Head {
     })
 }
 
-// Reads the bytes that are given.
-fn read_given(
+// Reads the source fields.
+fn read_sources(
     case: Case,
     line: &[u8],
     r: &mut [u8],
     g: &mut [u8],
     b: &mut [u8],
     a: &mut [u8],
-) -> Given
+) -> SourceSizes
     ensures { λ s. ⌜ (s .r ≤ length (now (r .entry))) × (s .g ≤ length (now (g .entry))) × (s .b ≤ length (now (b .entry))) × (s .a ≤ length (now (a .entry))) ⌝ }
 {
     let red = next_field(line, case.next, r);
     let green = next_channel(case, line, red.next, g);
     let blue = next_channel(case, line, green.next, b);
     let alpha = next_channel(case, line, blue.next, a);
-    Given {
+    SourceSizes {
         r: red.count,
         g: green.count,
         b: blue.count,
@@ -212,12 +212,12 @@ fn read_given(
     }
 }
 
-// Reads the bytes at `at` to the start of into. Behind malformed ones the place is outside every line: nothing more is read,
-// and the line is not complete.
-fn next_field(line: &[u8], at: usize, into: &mut [u8]) -> Field
+// Reads a field of bytes into the first bytes of `into`. If it is malformed, `next` is outside every line, so that the line is not
+// complete.
+fn next_field(line: &[u8], start: usize, into: &mut [u8]) -> Field
     ensures { λ r. ⌜ r .count ≤ length (now (into .entry)) ⌝ }
 {
-    let Bytes::Value { count, next } = read::next_bytes(line, at, into) else {
+    let Bytes::Value { count, next } = read::next_bytes(line, start, into) else {
         return Field {
             count: 0,
             next: usize::MAX,
@@ -226,45 +226,69 @@ fn next_field(line: &[u8], at: usize, into: &mut [u8]) -> Field
     Field { count, next }
 }
 
-// The same of a channel after the first. A line of pixels has none, and is read on from where it was.
-fn next_channel(case: Case, line: &[u8], at: usize, into: &mut [u8]) -> Field
+// The same for a channel after the first. A line of pixels has none, so the next field begins at the same index.
+fn next_channel(case: Case, line: &[u8], start: usize, into: &mut [u8]) -> Field
     ensures { λ r. ⌜ r .count ≤ length (now (into .entry)) ⌝ }
 {
     let source = case.source;
     match source {
-        Source::Channels => next_field(line, at, into),
-        Source::Pixels => Field { count: 0, next: at },
+        SourceKind::Channels => next_field(line, start, into),
+        SourceKind::Pixels => Field {
+            count: 0,
+            next: start,
+        },
     }
 }
 
-// Whether the line ends behind AFTER, AFTER has as many bytes as the destination, and A is there only if it is packed.
-fn is_whole(case: Case, a: usize, last: Field, line: &[u8]) -> bool {
+// Whether the line ends after AFTER, AFTER has as many bytes as the destination, and A has bytes only if it is packed.
+fn is_complete(case: Case, a: usize, last: Field, line: &[u8]) -> bool {
     last.next == line.len() && last.count == case.room && (case.alpha || a == 0)
 }
 
-// Runs the case on a part of dst, as long as after, and compares everything that can be observed.
-fn run(case: Case, r: &[u8], g: &[u8], b: &[u8], a: &[u8], dst: &mut [u8], after: &[u8]) -> Outcome
+// Makes the call with the slice of `dst` between its guard bytes, as long as `after`, and compares everything that can be observed.
+fn run(
+    case: Case,
+    r: &[u8],
+    g: &[u8],
+    b: &[u8],
+    a: &[u8],
+    dst: &mut [u8],
+    after: &[u8],
+) -> LineResult
     requires { ⌜ length (now after) + 32 ≤ length (now dst) ⌝ }
 {
-    let encoded = called(case, r, g, b, a, &mut dst[MARGIN..MARGIN + after.len()]);
-    let seen = part::look_at(dst, after);
+    let encoded = call(
+        case,
+        r,
+        g,
+        b,
+        a,
+        &mut dst[GUARD_SIZE..GUARD_SIZE + after.len()],
+    );
+    let comparison = guarded::compare_slice(dst, after);
     let expected = case.answer;
-    let got = of_encoding(encoded);
-    let sent = is_sent(case, encoded);
-    report::compared(expected, got, sent, seen.written, seen.untouched)
+    let got = answer_of_encoded(encoded);
+    let header_equal = has_expected_header(case, encoded);
+    report::case_result(
+        expected,
+        got,
+        header_equal,
+        comparison.bytes_equal,
+        comparison.guards_unchanged,
+    )
 }
 
-// Calls the entry that the case is for.
-fn called(case: Case, r: &[u8], g: &[u8], b: &[u8], a: &[u8], dst: &mut [u8]) -> Encoded {
-    part::prepare(dst);
+// Makes the call of a case.
+fn call(case: Case, r: &[u8], g: &[u8], b: &[u8], a: &[u8], dst: &mut [u8]) -> Encoded {
+    guarded::prepare(dst);
     let source = case.source;
     match source {
-        Source::Channels => called_on_channels(case, r, g, b, a, dst),
-        Source::Pixels => called_on_pixels(case, r, dst),
+        SourceKind::Channels => call_with_channels(case, r, g, b, a, dst),
+        SourceKind::Pixels => call_with_pixels(case, r, dst),
     }
 }
 
-fn called_on_channels(
+fn call_with_channels(
     case: Case,
     r: &[u8],
     g: &[u8],
@@ -287,35 +311,37 @@ fn called_on_channels(
     bitmap_encoder::encode_channels_stream(r, g, b, dst, case.rle, case.width, case.height)
 }
 
-fn called_on_pixels(case: Case, pixels: &[u8], dst: &mut [u8]) -> Encoded {
+fn call_with_pixels(case: Case, pixels: &[u8], dst: &mut [u8]) -> Encoded {
     if case.alpha {
         return bitmap_encoder::encode_bitmap_alpha(pixels, dst, case.rle, case.width, case.height);
     }
     bitmap_encoder::encode_bitmap(pixels, dst, case.rle, case.width, case.height)
 }
 
-fn of_encoding(encoded: Encoded) -> Answer {
+fn answer_of_encoded(encoded: Encoded) -> Answer {
     match encoded {
         Encoded::Written { bytes, header: _ } => Answer {
             refused: false,
             number: bytes,
         },
-        Encoded::Refused(refusal) => plane::refused(refusal),
+        Encoded::Refused(refusal) => plane::answer_of_refusal(refusal),
     }
 }
 
-// Whether the header record is that of the line. A refusal has none.
-fn is_sent(case: Case, encoded: Encoded) -> bool {
+// Whether the returned header record is that of the line. A refusal returns none.
+fn has_expected_header(case: Case, encoded: Encoded) -> bool {
     match encoded {
-        Encoded::Written { bytes: _, header } => is_same(case.sent, header),
+        Encoded::Written { bytes: _, header } => is_header_equal(case.header, header),
         Encoded::Refused(_) => true,
     }
 }
 
-fn is_same(sent: Sent, header: BitmapStreamHeader) -> bool {
+fn is_header_equal(expected: ExpectedHeader, header: BitmapStreamHeader) -> bool {
     let definition = header.color_plane_definition;
     let argb = is_argb(definition);
-    sent.rle == header.enable_rle_compression && sent.alpha == header.use_alpha && sent.argb == argb
+    expected.rle == header.enable_rle_compression
+        && expected.alpha == header.use_alpha
+        && expected.argb == argb
 }
 
 fn is_argb(definition: ColorPlaneDefinition) -> bool {

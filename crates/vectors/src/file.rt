@@ -1,61 +1,61 @@
 // A data file: loaded completely, and replayed line by line.
 use crate::encode;
-use crate::encode::Source;
+use crate::encode::SourceKind;
 use crate::picture;
 use crate::plane;
-use crate::plane::Entry;
+use crate::plane::Operation;
 use crate::read;
 use crate::report;
-use crate::report::Outcome;
+use crate::report::LineResult;
 use crate::report::Tally;
 ghost use Prim.Native.Nat.{_+_, _≤_};
 ghost use lib.ListN.{length};
 
-// What the cases of a file are of.
+// What the cases of a file call.
 pub(crate) enum Kind {
-    Plane(Entry),
+    Plane(Operation),
     Picture,
-    Encode(Source),
+    Encode(SourceKind),
 }
 
-// The largest file: 1 MiB. What is loaded has room for one byte more, which only a larger file fills.
-const MOST: usize = 1_048_576;
+// The largest file: 1 MiB. The buffer has one byte more, which only a larger file fills.
+const MAX_FILE_SIZE: usize = 1_048_576;
 
-// So many lines of a file that are different or malformed are reported one by one. The rest is only counted.
-const TOLD: usize = 10;
+// At most this many lines of a file that are different or malformed are reported one by one. The others are only counted.
+const MAX_REPORTED_LINES: usize = 10;
 
-// Replays the file at path, whose cases are all of one kind, and prints its tally, or why there is none.
+// Replays the file at `path`, whose cases are all of one kind, and prints its tally, or why there is none.
 pub(crate) fn replay(kind: Kind, path: &[u8]) {
-    let mut room = [0u8; MOST + 1];
-    replay_in(kind, path, &mut room);
+    let mut buffer = [0u8; MAX_FILE_SIZE + 1];
+    replay_with_buffer(kind, path, &mut buffer);
 }
 
-// The same, with room for the file. An array of this size is passed as an array, whose type has the length; that of a slice would have
-// to be proved.
-fn replay_in(kind: Kind, path: &[u8], room: &mut [u8; MOST + 1]) {
+// The same, with a buffer for the file. It is passed as an array, whose type gives its length; the length of a slice would have to be
+// proved.
+fn replay_with_buffer(kind: Kind, path: &[u8], buffer: &mut [u8; MAX_FILE_SIZE + 1]) {
     let fd = os::open_read(path);
     if fd < 0 {
         report::print_error(path, b"cannot be opened");
         return;
     }
-    let size = io::read_full(fd, room);
+    let size = io::read_full(fd, buffer);
     libc::close(fd);
-    replay_loaded(kind, path, room, size);
+    replay_loaded(kind, path, buffer, size);
 }
 
-// The same of a file that was loaded: its text is the first size bytes.
-fn replay_loaded(kind: Kind, path: &[u8], room: &[u8], size: usize)
-    requires { ⌜ size ≤ length (now room) ⌝ }
+// The same for a file that was loaded: its text is the first `size` bytes of the buffer.
+fn replay_loaded(kind: Kind, path: &[u8], buffer: &[u8], size: usize)
+    requires { ⌜ size ≤ length (now buffer) ⌝ }
 {
-    if MOST < size {
+    if MAX_FILE_SIZE < size {
         report::print_error(path, b"is larger than 1 MiB");
         return;
     }
-    let tally = replay_lines(kind, path, &room[0..size]);
+    let tally = replay_lines(kind, path, &buffer[0..size]);
     report::print_tally(path, tally);
 }
 
-// Replays each line of text. Every turn takes a line of one byte at least, so the counts stay below the text's length.
+// Replays each line of the text. Every line has at least one byte, so no count exceeds the text's length.
 fn replay_lines(kind: Kind, path: &[u8], text: &[u8]) -> Tally
     ensures { λ r. ⌜ r .equal + r .different + r .malformed ≤ length (now (text .entry)) ⌝ }
 {
@@ -65,29 +65,29 @@ fn replay_lines(kind: Kind, path: &[u8], text: &[u8]) -> Tally
         malformed: 0,
     };
     let mut line = 0;
-    let mut at = 0;
-    while at < text.len() {
-        let end = read::line_end(text, at);
-        let outcome = replay_line(kind, &text[at..end]);
+    let mut start = 0;
+    while start < text.len() {
+        let end = read::line_end(text, start);
+        let result = replay_line(kind, &text[start..end]);
         line += 1;
-        if tally.different + tally.malformed < TOLD {
-            report::print_outcome(path, line, outcome);
+        if tally.different + tally.malformed < MAX_REPORTED_LINES {
+            report::print_result(path, line, result);
         }
-        tally = report::counted(tally, outcome);
-        at = end;
+        tally = report::add_result(tally, result);
+        start = end;
     }
     tally
 }
 
-// Replays one line, given with its newline. A comment holds no case.
-fn replay_line(kind: Kind, line: &[u8]) -> Outcome {
+// Replays one line, given with its newline. A comment has no case.
+fn replay_line(kind: Kind, line: &[u8]) -> LineResult {
     if 0 < line.len() {
         if line[0] == b'#' {
-            return Outcome::Comment;
+            return LineResult::Comment;
         }
     }
     match kind {
-        Kind::Plane(entry) => plane::replay(entry, line),
+        Kind::Plane(operation) => plane::replay(operation, line),
         Kind::Picture => picture::replay(line),
         Kind::Encode(source) => encode::replay(source, line),
     }

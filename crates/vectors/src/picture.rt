@@ -1,28 +1,28 @@
-// Replays one case of a picture, given on one line:
+// Replays one case of unpacking a picture. The case is one line:
 //     WIDTH HEIGHT RLE ALPHA DEFINITION LEVEL SUBSAMPLED WORKROOM IMAGEROOM ANSWER BODY WORK-AFTER IMAGE-AFTER
-// RLE, ALPHA and SUBSAMPLED are 0 or 1, LEVEL is 0 to 255. DEFINITION is 0 for ARGB, which has no use for LEVEL and
-// SUBSAMPLED, and 1 for AYCoCg. WORKROOM and IMAGEROOM are the lengths of the work area and of the image, ANSWER the bytes
-// written or minus the refusal's number, WORK-AFTER and IMAGE-AFTER all bytes of both afterwards. Bytes are as in a plane's
-// line.
-use crate::part;
-use crate::part::MARGIN;
-use crate::part::MOST;
-use crate::part::Seen;
+// RLE, ALPHA and SUBSAMPLED are 0 or 1, LEVEL is 0 to 255. DEFINITION is 0 for ARGB, which ignores LEVEL and SUBSAMPLED, and 1 for
+// AYCoCg. WORKROOM and IMAGEROOM are the lengths of the work area and of the image. ANSWER is the number of bytes written, or the
+// negative of a refusal's number. WORK-AFTER and IMAGE-AFTER have all bytes of both after the call. Bytes are written as in a
+// plane's line.
+use crate::guarded;
+use crate::guarded::Comparison;
+use crate::guarded::GUARD_SIZE;
+use crate::guarded::MAX_SLICE;
 use crate::plane;
 use crate::read;
 use crate::read::Bytes;
-use crate::read::NUMBERS;
+use crate::read::MAX_NUMBERS;
 use crate::read::Signed;
 use crate::report;
 use crate::report::Answer;
-use crate::report::Outcome;
+use crate::report::LineResult;
 use bitmap_format::BitmapStreamHeader;
 use bitmap_format::ColorPlaneDefinition;
 use bitmap_format::Decoded;
 ghost use Prim.Native.Nat.{_+_, _≤_};
 ghost use lib.ListN.{length};
 
-// The places of the numbers before the answer.
+// The indexes of the numbers before the answer.
 const WIDTH: usize = 0;
 
 const HEIGHT: usize = 1;
@@ -37,101 +37,101 @@ const LEVEL: usize = 5;
 
 const SUBSAMPLED: usize = 6;
 
-const WORK: usize = 7;
+const WORK_ROOM: usize = 7;
 
-const IMAGE: usize = 8;
+const IMAGE_ROOM: usize = 8;
 
-// The numbers of a case, work and image being the lengths of these slices, and the place of the body.
+// The numbers of a case, and the index of the body field.
 struct Case {
     header: BitmapStreamHeader,
     width: usize,
     height: usize,
-    work: usize,
-    image: usize,
+    work_room: usize,
+    image_room: usize,
     answer: Answer,
     next: usize,
 }
 
-enum Head {
-    Of(Case),
+enum ParsedCase {
+    Value(Case),
     Malformed,
 }
 
-enum Header {
-    Of(BitmapStreamHeader),
+enum ParsedHeader {
+    Value(BitmapStreamHeader),
     Malformed,
 }
 
-// What a slice holds after the call, against the line, and the place behind that field.
-enum Held {
-    As { seen: Seen, next: usize },
+// A slice after the call, compared with a field of the line, and the index after that field.
+enum FieldComparison {
+    Value { comparison: Comparison, next: usize },
     Malformed,
 }
 
 // Replays the case of a line.
-pub(crate) fn replay(line: &[u8]) -> Outcome {
-    let Head::Of(case) = read_head(line) else {
-        return Outcome::Malformed;
+pub(crate) fn replay(line: &[u8]) -> LineResult {
+    let ParsedCase::Value(case) = parse_case(line) else {
+        return LineResult::Malformed;
     };
-    let mut bytes = part::surrounded();
-    let mut work = part::surrounded();
-    let mut image = part::surrounded();
-    replay_in(
+    let mut body = guarded::new_array();
+    let mut work = guarded::new_array();
+    let mut image = guarded::new_array();
+    replay_with_buffers(
         case,
         line,
-        &mut bytes[MARGIN..MARGIN + MOST],
+        &mut body[GUARD_SIZE..GUARD_SIZE + MAX_SLICE],
         &mut work,
         &mut image,
     )
 }
 
-// The same with the case's numbers, and with room for its bytes.
-fn replay_in(
+// The same with the case's numbers, and with buffers for the body, the work area and the image.
+fn replay_with_buffers(
     case: Case,
     line: &[u8],
-    bytes: &mut [u8],
+    body: &mut [u8],
     work: &mut [u8],
     image: &mut [u8],
-) -> Outcome
+) -> LineResult
     requires { ⌜ (33032 ≤ length (now work)) × (33032 ≤ length (now image)) ⌝ }
 {
-    if MOST < case.work {
-        return Outcome::Malformed;
+    if MAX_SLICE < case.work_room {
+        return LineResult::Malformed;
     }
-    if MOST < case.image {
-        return Outcome::Malformed;
+    if MAX_SLICE < case.image_room {
+        return LineResult::Malformed;
     }
-    let at = case.next;
-    let Bytes::Value { count, next } = read::next_bytes(line, at, bytes) else {
-        return Outcome::Malformed;
+    let start = case.next;
+    let Bytes::Value { count, next } = read::next_bytes(line, start, body) else {
+        return LineResult::Malformed;
     };
-    let work_end = MARGIN + case.work;
-    let image_end = MARGIN + case.image;
-    let got = run(
+    let work_end = GUARD_SIZE + case.work_room;
+    let image_end = GUARD_SIZE + case.image_room;
+    let got = call(
         case,
-        &bytes[0..count],
-        &mut work[MARGIN..work_end],
-        &mut image[MARGIN..image_end],
+        &body[0..count],
+        &mut work[GUARD_SIZE..work_end],
+        &mut image[GUARD_SIZE..image_end],
     );
-    compared(case, got, line, next, work, image)
+    compare(case, got, line, next, work, image)
 }
 
-// Reads the numbers.
-fn read_head(line: &[u8]) -> Head {
-    let mut numbers = [0usize; NUMBERS];
-    let at = read::next_numbers(line, 0, NUMBERS, &mut numbers);
-    let Signed::Value { minus, value, next } = read::next_signed(line, at) else {
-        return Head::Malformed;
+// Reads the numbers of a case.
+fn parse_case(line: &[u8]) -> ParsedCase {
+    let mut numbers = [0usize; MAX_NUMBERS];
+    let start = read::next_numbers(line, 0, MAX_NUMBERS, &mut numbers);
+    let Signed::Value { minus, value, next } = read::next_signed(line, start) else {
+        return ParsedCase::Malformed;
     };
-    let Header::Of(header) = header_of(numbers) else {
-        return Head::Malformed;
+    let ParsedHeader::Value(header) = header_of(numbers) else {
+        return ParsedCase::Malformed;
     };
-    Head::Of(Case {
+    ParsedCase::Value(Case {
         header,
         width: numbers[WIDTH],
         height: numbers[HEIGHT],
-        work: numbers[WORK],
-        image: numbers[IMAGE],
+        work_room: numbers[WORK_ROOM],
+        image_room: numbers[IMAGE_ROOM],
         answer: Answer {
             refused: minus,
             number: value,
@@ -141,25 +141,25 @@ fn read_head(line: &[u8]) -> Head {
 }
 
 // The header record of the numbers.
-fn header_of(numbers: [usize; NUMBERS]) -> Header {
+fn header_of(numbers: [usize; MAX_NUMBERS]) -> ParsedHeader {
     if !are_flags(
         numbers[RLE],
         numbers[ALPHA],
         numbers[DEFINITION],
         numbers[SUBSAMPLED],
     ) {
-        return Header::Malformed;
+        return ParsedHeader::Malformed;
     }
     let level = numbers[LEVEL];
     if 255 < level {
-        return Header::Malformed;
+        return ParsedHeader::Malformed;
     }
     let color_plane_definition = definition_of(
         numbers[DEFINITION],
         level as u8,
         numbers[SUBSAMPLED],
     );
-    Header::Of(BitmapStreamHeader {
+    ParsedHeader::Value(BitmapStreamHeader {
         enable_rle_compression: numbers[RLE] == 1,
         use_alpha: numbers[ALPHA] == 1,
         color_plane_definition,
@@ -181,67 +181,84 @@ fn definition_of(definition: usize, level: u8, subsampled: usize) -> ColorPlaneD
     }
 }
 
-// Runs the case.
-fn run(case: Case, body: &[u8], work: &mut [u8], image: &mut [u8]) -> Answer {
-    part::prepare(work);
-    part::prepare(image);
+// Makes the call of a case.
+fn call(case: Case, body: &[u8], work: &mut [u8], image: &mut [u8]) -> Answer {
+    guarded::prepare(work);
+    guarded::prepare(image);
     let header = case.header;
-    of_decoding(bitmap_decoder::decode(header, body, work, image, case.width, case.height))
+    answer_of_decoded(bitmap_decoder::decode(header, body, work, image, case.width, case.height))
 }
 
-fn of_decoding(decoded: Decoded) -> Answer {
+fn answer_of_decoded(decoded: Decoded) -> Answer {
     match decoded {
         Decoded::Written(number) => Answer {
             refused: false,
             number,
         },
-        Decoded::Refused(refusal) => plane::refused(refusal),
+        Decoded::Refused(refusal) => plane::answer_of_refusal(refusal),
     }
 }
 
-// Compares everything that can be observed with the end of the line, from `at` on.
-fn compared(case: Case, got: Answer, line: &[u8], at: usize, work: &[u8], image: &[u8]) -> Outcome
-    requires { ⌜ (case .work + 32 ≤ length (now work)) × (case .image + 32 ≤ length (now image)) ⌝ }
+// Compares everything that can be observed with the line, whose remaining fields begin at `start`.
+fn compare(
+    case: Case,
+    got: Answer,
+    line: &[u8],
+    start: usize,
+    work: &[u8],
+    image: &[u8],
+) -> LineResult
+    requires { ⌜ (case .«work_room» + 32 ≤ length (now work)) × (case .«image_room» + 32 ≤ length (now image)) ⌝ }
 {
-    let Held::As {
-        seen: in_work,
+    let FieldComparison::Value {
+        comparison: work_comparison,
         next,
-    } = next_held(line, at, work, case.work)
+    } = compare_field(line, start, work, case.work_room)
     else {
-        return Outcome::Malformed;
+        return LineResult::Malformed;
     };
-    let Held::As { seen, next: end } = next_held(line, next, image, case.image) else {
-        return Outcome::Malformed;
+    let FieldComparison::Value {
+        comparison: image_comparison,
+        next: end,
+    } = compare_field(line, next, image, case.image_room)
+    else {
+        return LineResult::Malformed;
     };
     if end != line.len() {
-        return Outcome::Malformed;
+        return LineResult::Malformed;
     }
-    let written = in_work.written && seen.written;
-    let untouched = in_work.untouched && seen.untouched;
+    let bytes_equal = work_comparison.bytes_equal && image_comparison.bytes_equal;
+    let guards_unchanged = work_comparison.guards_unchanged && image_comparison.guards_unchanged;
     let expected = case.answer;
-    report::compared(expected, got, true, written, untouched)
+    report::case_result(expected, got, true, bytes_equal, guards_unchanged)
 }
 
-// Looks at the part of size bytes, which should hold what the line says at `at`.
-fn next_held(line: &[u8], at: usize, around: &[u8], size: usize) -> Held
-    requires { ⌜ size + 32 ≤ length (now around) ⌝ }
+// Compares the slice of `size` bytes that lies between guard bytes in `array` with the field at `start`.
+fn compare_field(line: &[u8], start: usize, array: &[u8], size: usize) -> FieldComparison
+    requires { ⌜ size + 32 ≤ length (now array) ⌝ }
 {
-    let mut room = part::surrounded();
-    next_held_in(line, at, around, size, &mut room)
+    let mut buffer = guarded::new_array();
+    compare_field_with_buffer(line, start, array, size, &mut buffer)
 }
 
-// The same, with room for what the line says.
-fn next_held_in(line: &[u8], at: usize, around: &[u8], size: usize, after: &mut [u8]) -> Held
-    requires { ⌜ size + 32 ≤ length (now around) ⌝ }
+// The same, with a buffer for the field.
+fn compare_field_with_buffer(
+    line: &[u8],
+    start: usize,
+    array: &[u8],
+    size: usize,
+    after: &mut [u8],
+) -> FieldComparison
+    requires { ⌜ size + 32 ≤ length (now array) ⌝ }
 {
-    let Bytes::Value { count, next } = read::next_bytes(line, at, after) else {
-        return Held::Malformed;
+    let Bytes::Value { count, next } = read::next_bytes(line, start, after) else {
+        return FieldComparison::Malformed;
     };
     if count != size {
-        return Held::Malformed;
+        return FieldComparison::Malformed;
     }
-    Held::As {
-        seen: part::look_at(around, &after[0..count]),
+    FieldComparison::Value {
+        comparison: guarded::compare_slice(array, &after[0..count]),
         next,
     }
 }

@@ -1,23 +1,24 @@
-// Replays one case of a plane, given on one line:
-//     WIDTH HEIGHT ROOM ANSWER GIVEN AFTER
-// GIVEN is the body that is unpacked or the samples that are packed, ROOM the length of the destination, ANSWER the bytes read
-// or written or minus the refusal's number, AFTER all the destination's bytes afterwards. In GIVEN and AFTER two capital
-// hexadecimal digits are a byte, `1F*3` is three of them, with a comma if more follow, and a hyphen is no byte at all.
+// Replays one case of packing or unpacking a plane. The case is one line:
+//     WIDTH HEIGHT ROOM ANSWER SOURCE AFTER
+// SOURCE is the body that is unpacked or the samples that are packed. ROOM is the length of the destination. ANSWER is the number
+// of bytes read or written, or the negative of a refusal's number. AFTER has all bytes of the destination after the call. In
+// SOURCE and AFTER a byte is two hexadecimal digits in upper case. `1F*3` is the byte 1F three times; if another byte follows, a
+// comma is between them. A hyphen is no bytes.
 //
-// A round trip has one number more:
+// A round trip (FORMAT 9) has one more number:
 //     WIDTH HEIGHT END ROOM ANSWER SAMPLES AFTER
-// The samples are packed into 20,000 bytes that hold C7, and the first END bytes of these are unpacked. ANSWER is that of
-// unpacking, or for samples that are not packed minus the refusal's number, or minus 0 where END is over 20,000.
-use crate::part;
-use crate::part::MARGIN;
-use crate::part::MOST;
+// The samples are packed into a slice of 20,000 bytes C7, and the first END bytes of that slice are unpacked. ANSWER is the answer
+// of unpacking; or, if packing is refused, the negative of that refusal's number; or -0 if END is over 20,000.
+use crate::guarded;
+use crate::guarded::GUARD_SIZE;
+use crate::guarded::MAX_SLICE;
 use crate::read;
 use crate::read::Bytes;
 use crate::read::Number;
 use crate::read::Signed;
 use crate::report;
 use crate::report::Answer;
-use crate::report::Outcome;
+use crate::report::LineResult;
 use rle_format::Packed;
 use rle_format::Refusal;
 use rle_format::Unpacked;
@@ -25,19 +26,19 @@ use rle_round_trip::RoundTrip;
 ghost use Prim.Native.Nat.{_+_, _≤_};
 ghost use lib.ListN.{length};
 
-// The entry that a case calls. All cases of a file call the same.
-pub(crate) enum Entry {
+// What a case calls. It is the same for all cases of a file.
+pub(crate) enum Operation {
     Unpack,
     Pack,
     RoundTrip,
 }
 
-// The slice that the samples of a round trip are packed into.
-const PACKED: usize = 20_000;
+// The length of the slice that a round trip packs into.
+const PACKED_SIZE: usize = 20_000;
 
-// The numbers of a case, and the place of the bytes that are given. Only a round trip has an end; of others it is 0.
+// The numbers of a case, and the index of the source field. Only a round trip has an `end`; in other cases it is 0.
 struct Case {
-    entry: Entry,
+    operation: Operation,
     width: usize,
     height: usize,
     end: usize,
@@ -46,76 +47,82 @@ struct Case {
     next: usize,
 }
 
-enum Head {
-    Of(Case),
+enum ParsedCase {
+    Value(Case),
     Malformed,
 }
 
 // Replays the case of a line.
-pub(crate) fn replay(entry: Entry, line: &[u8]) -> Outcome {
-    let Head::Of(case) = read_head(entry, line) else {
-        return Outcome::Malformed;
+pub(crate) fn replay(operation: Operation, line: &[u8]) -> LineResult {
+    let ParsedCase::Value(case) = parse_case(operation, line) else {
+        return LineResult::Malformed;
     };
-    let mut given = part::surrounded();
-    let mut dst = part::surrounded();
-    let mut after = part::surrounded();
-    replay_in(
+    let mut source = guarded::new_array();
+    let mut dst = guarded::new_array();
+    let mut after = guarded::new_array();
+    replay_with_buffers(
         case,
         line,
-        &mut given[MARGIN..MARGIN + MOST],
+        &mut source[GUARD_SIZE..GUARD_SIZE + MAX_SLICE],
         &mut dst,
-        &mut after[MARGIN..MARGIN + MOST],
+        &mut after[GUARD_SIZE..GUARD_SIZE + MAX_SLICE],
     )
 }
 
-// The same with the case's numbers, and with room for its bytes.
-fn replay_in(case: Case, line: &[u8], given: &mut [u8], dst: &mut [u8], after: &mut [u8]) -> Outcome
+// The same with the case's numbers, and with buffers for its bytes.
+fn replay_with_buffers(
+    case: Case,
+    line: &[u8],
+    source: &mut [u8],
+    dst: &mut [u8],
+    after: &mut [u8],
+) -> LineResult
     requires { ⌜ length (now after) + 32 ≤ length (now dst) ⌝ }
 {
-    let at = case.next;
-    let Bytes::Value { count, next } = read::next_bytes(line, at, given) else {
-        return Outcome::Malformed;
+    let start = case.next;
+    let Bytes::Value { count, next } = read::next_bytes(line, start, source) else {
+        return LineResult::Malformed;
     };
     let Bytes::Value {
         count: room,
         next: end,
     } = read::next_bytes(line, next, after)
     else {
-        return Outcome::Malformed;
+        return LineResult::Malformed;
     };
-    if !is_whole(case, room, line, end) {
-        return Outcome::Malformed;
+    if !is_complete(case, room, line, end) {
+        return LineResult::Malformed;
     }
-    run(case, &given[0..count], dst, &after[0..room])
+    run(case, &source[0..count], dst, &after[0..room])
 }
 
-// Reads the numbers.
-fn read_head(entry: Entry, line: &[u8]) -> Head {
+// Reads the numbers of a case.
+fn parse_case(operation: Operation, line: &[u8]) -> ParsedCase {
     let Number::Value { value: width, next } = read::next_number(line, 0) else {
-        return Head::Malformed;
+        return ParsedCase::Malformed;
     };
     let Number::Value {
         value: height,
         next,
     } = read::next_number(line, next)
     else {
-        return Head::Malformed;
+        return ParsedCase::Malformed;
     };
-    let Number::Value { value: end, next } = read_end(entry, line, next) else {
-        return Head::Malformed;
+    let Number::Value { value: end, next } = read_end(operation, line, next) else {
+        return ParsedCase::Malformed;
     };
     let Number::Value { value: room, next } = read::next_number(line, next) else {
-        return Head::Malformed;
+        return ParsedCase::Malformed;
     };
     let Signed::Value { minus, value, next } = read::next_signed(line, next) else {
-        return Head::Malformed;
+        return ParsedCase::Malformed;
     };
     let answer = Answer {
         refused: minus,
         number: value,
     };
-    Head::Of(Case {
-        entry,
+    ParsedCase::Value(Case {
+        operation,
         width,
         height,
         end,
@@ -125,88 +132,97 @@ fn read_head(entry: Entry, line: &[u8]) -> Head {
     })
 }
 
-// Reads the end of a round trip. The line of another case has none, and is read on from where it was.
-fn read_end(entry: Entry, line: &[u8], at: usize) -> Number {
-    match entry {
-        Entry::RoundTrip => read::next_number(line, at),
-        Entry::Unpack | Entry::Pack => Number::Value { value: 0, next: at },
+// Reads the END of a round trip. The line of another case has none, so the next field begins at the same index.
+fn read_end(operation: Operation, line: &[u8], start: usize) -> Number {
+    match operation {
+        Operation::RoundTrip => read::next_number(line, start),
+        Operation::Unpack | Operation::Pack => Number::Value {
+            value: 0,
+            next: start,
+        },
     }
 }
 
-// Whether the line ends behind AFTER, and AFTER has as many bytes as the destination.
-fn is_whole(case: Case, room: usize, line: &[u8], end: usize) -> bool {
+// Whether the line ends after AFTER, and AFTER has as many bytes as the destination.
+fn is_complete(case: Case, room: usize, line: &[u8], end: usize) -> bool {
     room == case.room && end == line.len()
 }
 
-// Runs the case on a part of dst, as long as after, and compares everything that can be observed.
-fn run(case: Case, given: &[u8], dst: &mut [u8], after: &[u8]) -> Outcome
+// Makes the call with the slice of `dst` between its guard bytes, as long as `after`, and compares everything that can be observed.
+fn run(case: Case, source: &[u8], dst: &mut [u8], after: &[u8]) -> LineResult
     requires { ⌜ length (now after) + 32 ≤ length (now dst) ⌝ }
 {
-    let answer = called(case, given, &mut dst[MARGIN..MARGIN + after.len()]);
-    let seen = part::look_at(dst, after);
+    let answer = call(case, source, &mut dst[GUARD_SIZE..GUARD_SIZE + after.len()]);
+    let comparison = guarded::compare_slice(dst, after);
     let expected = case.answer;
-    report::compared(expected, answer, true, seen.written, seen.untouched)
+    report::case_result(
+        expected,
+        answer,
+        true,
+        comparison.bytes_equal,
+        comparison.guards_unchanged,
+    )
 }
 
-// Calls what the case is for.
-fn called(case: Case, given: &[u8], dst: &mut [u8]) -> Answer {
-    part::prepare(dst);
-    let entry = case.entry;
-    match entry {
-        Entry::Unpack => of_unpacking(rle_decoder::decompress_8bpp_plane(
-            given,
+// Makes the call of a case.
+fn call(case: Case, source: &[u8], dst: &mut [u8]) -> Answer {
+    guarded::prepare(dst);
+    let operation = case.operation;
+    match operation {
+        Operation::Unpack => answer_of_unpacked(rle_decoder::decompress_8bpp_plane(
+            source,
             dst,
             case.width,
             case.height,
         )),
-        Entry::Pack => of_packing(rle_encoder::compress_8bpp_plane(
-            given,
+        Operation::Pack => answer_of_packed(rle_encoder::compress_8bpp_plane(
+            source,
             dst,
             case.width,
             case.height,
         )),
-        Entry::RoundTrip => round_trip(case, given, dst),
+        Operation::RoundTrip => round_trip(case, source, dst),
     }
 }
 
-// Packs the samples, and unpacks the first bytes of the slice that they were packed into.
+// Packs the samples, and unpacks the first `end` bytes of the slice that they were packed into.
 fn round_trip(case: Case, samples: &[u8], dst: &mut [u8]) -> Answer {
-    let mut packed = part::surrounded();
+    let mut packed = guarded::new_array();
     let trip = rle_round_trip::round_trip(
         samples,
-        &mut packed[MARGIN..MARGIN + PACKED],
+        &mut packed[GUARD_SIZE..GUARD_SIZE + PACKED_SIZE],
         case.end,
         dst,
         case.width,
         case.height,
     );
-    of_round_trip(trip)
+    answer_of_round_trip(trip)
 }
 
-fn of_unpacking(unpacked: Unpacked) -> Answer {
+fn answer_of_unpacked(unpacked: Unpacked) -> Answer {
     match unpacked {
         Unpacked::Read(number) => Answer {
             refused: false,
             number,
         },
-        Unpacked::Refused(refusal) => refused(refusal),
+        Unpacked::Refused(refusal) => answer_of_refusal(refusal),
     }
 }
 
-fn of_packing(packed: Packed) -> Answer {
+fn answer_of_packed(packed: Packed) -> Answer {
     match packed {
         Packed::Written(number) => Answer {
             refused: false,
             number,
         },
-        Packed::Refused(refusal) => refused(refusal),
+        Packed::Refused(refusal) => answer_of_refusal(refusal),
     }
 }
 
-fn of_round_trip(trip: RoundTrip) -> Answer {
+fn answer_of_round_trip(trip: RoundTrip) -> Answer {
     match trip {
-        RoundTrip::Done(unpacked) => of_unpacking(unpacked),
-        RoundTrip::NotPacked(refusal) => refused(refusal),
+        RoundTrip::Done(unpacked) => answer_of_unpacked(unpacked),
+        RoundTrip::NotPacked(refusal) => answer_of_refusal(refusal),
         RoundTrip::TooLong => Answer {
             refused: true,
             number: 0,
@@ -214,7 +230,7 @@ fn of_round_trip(trip: RoundTrip) -> Answer {
     }
 }
 
-pub(crate) fn refused(refusal: Refusal) -> Answer {
+pub(crate) fn answer_of_refusal(refusal: Refusal) -> Answer {
     Answer {
         refused: true,
         number: rle_format::number_of(refusal) as usize,

@@ -1,13 +1,13 @@
-// Reads the fields of one line of a data file. The line is given with its newline; each field ends in a space or in that
-// newline. A reader gets an index in the line, and returns what is there and, as next, the index behind the byte
-// that ends the field. A place outside the line is malformed like any other text.
+// Reads the fields of one line of a data file. The line is given with its newline. Each field ends with a space or with that
+// newline. A function that reads a field gets the index `start` of its first byte. It returns the field's value and, as `next`,
+// the index after the byte that ends the field. A field whose index is outside the line is malformed.
 ghost use mathlib.Core.Path.{_≡_};
 ghost use Prim.Native.Nat.{_≤_, _<_};
 ghost use lib.ListN.{length};
-ghost use Rattle.vectors.specs.Counts.{countOf, expandedTo};
+ghost use Rattle.vectors.specs.Counts.{countOf, expandedCount};
 
-// So many numbers stand in a row at most.
-pub(crate) const NUMBERS: usize = 9;
+// The largest `count` of `next_numbers`.
+pub(crate) const MAX_NUMBERS: usize = 9;
 
 // A decimal number.
 pub(crate) enum Number {
@@ -15,7 +15,7 @@ pub(crate) enum Number {
     Malformed,
 }
 
-// A decimal number that a minus sign may stand before.
+// A decimal number that may have a minus sign.
 pub(crate) enum Signed {
     Value {
         minus: bool,
@@ -25,51 +25,51 @@ pub(crate) enum Signed {
     Malformed,
 }
 
-// A string of bytes: how many were written to the start of the slice.
+// A field of bytes: how many were written to the first bytes of the slice.
 pub(crate) enum Bytes {
     Value { count: usize, next: usize },
     Malformed,
 }
 
-// What decimal digits alone say.
+// The value of a field of decimal digits.
 enum Decimal {
     Value(usize),
     Malformed,
 }
 
-// How many bytes a field of bytes stands for.
+// How many bytes a field of bytes has, repeats included.
 pub(crate) enum Expanded {
     Count(usize),
     Malformed,
 }
 
-// One entry of a field of bytes: a byte, how often it stands there, and the place behind the entry. A malformed one
-// stands there no time.
+// One entry of a field of bytes: a byte, how often it is repeated, and the index after the entry. In a malformed entry `times`
+// is 0.
 struct Entry {
     byte: u8,
     times: usize,
     next: usize,
 }
 
-// The place behind the newline of the line that starts at `at`, or the text's end where no newline follows.
-pub(crate) fn line_end(text: &[u8], at: usize) -> usize
-    requires { ⌜ at < length (now text) ⌝ }
-    ensures { λ r. ⌜ (at < r) × (r ≤ length (now (text .entry))) ⌝ }
+// The index after the newline of the line that begins at `start`, or the text's length where no newline follows.
+pub(crate) fn line_end(text: &[u8], start: usize) -> usize
+    requires { ⌜ start < length (now text) ⌝ }
+    ensures { λ r. ⌜ (start < r) × (r ≤ length (now (text .entry))) ⌝ }
 {
-    let end = find(text, at, b'\n', b'\n');
+    let end = find_either(text, start, b'\n', b'\n');
     if end < text.len() {
         return end + 1;
     }
     text.len()
 }
 
-// The decimal number at `at`.
-pub(crate) fn next_number(line: &[u8], at: usize) -> Number {
-    let end = field_end(line, at);
+// Reads a decimal number.
+pub(crate) fn next_number(line: &[u8], start: usize) -> Number {
+    let end = field_end(line, start);
     if line.len() <= end {
         return Number::Malformed;
     }
-    let Decimal::Value(value) = decimal_of(&line[at..end]) else {
+    let Decimal::Value(value) = decimal_of(&line[start..end]) else {
         return Number::Malformed;
     };
     Number::Value {
@@ -78,51 +78,51 @@ pub(crate) fn next_number(line: &[u8], at: usize) -> Number {
     }
 }
 
-// Reads count numbers from `at` on, and answers the place behind them. Behind malformed ones it is the line's end, where
-// nothing more is read.
+// Reads `count` numbers into the first elements of `numbers`, and returns the index after the byte that ends the last one. If one is malformed it
+// returns the line's length, so that every later field of the line is malformed too.
 pub(crate) fn next_numbers(
     line: &[u8],
-    at: usize,
+    start: usize,
     count: usize,
-    numbers: &mut [usize; NUMBERS],
+    numbers: &mut [usize; MAX_NUMBERS],
 ) -> usize
     requires { ⌜ count ≤ 9 ⌝ }
 {
-    let mut place = at;
+    let mut index = start;
     let mut i = 0;
     while i < count {
-        let Number::Value { value, next } = next_number(line, place) else {
+        let Number::Value { value, next } = next_number(line, index) else {
             return line.len();
         };
         numbers[i] = value;
-        place = next;
+        index = next;
         i += 1;
     }
-    place
+    index
 }
 
-// The decimal number at `at`, with its sign.
-pub(crate) fn next_signed(line: &[u8], at: usize) -> Signed {
-    if line.len() <= at {
+// Reads a decimal number and its sign.
+pub(crate) fn next_signed(line: &[u8], start: usize) -> Signed {
+    if line.len() <= start {
         return Signed::Malformed;
     }
-    let minus = line[at] == b'-';
-    let start = if minus { at + 1 } else { at };
-    let Number::Value { value, next } = next_number(line, start) else {
+    let minus = line[start] == b'-';
+    let digits = if minus { start + 1 } else { start };
+    let Number::Value { value, next } = next_number(line, digits) else {
         return Signed::Malformed;
     };
     Signed::Value { minus, value, next }
 }
 
-// The bytes at `at`, written to the start of into.
-pub(crate) fn next_bytes(line: &[u8], at: usize, into: &mut [u8]) -> Bytes
+// Reads a field of bytes into the first bytes of `into`.
+pub(crate) fn next_bytes(line: &[u8], start: usize, into: &mut [u8]) -> Bytes
     ensures { λ r. ⌜ countOf r ≤ length (now (into .entry)) ⌝ }
 {
-    let end = field_end(line, at);
+    let end = field_end(line, start);
     if line.len() <= end {
         return Bytes::Malformed;
     }
-    let Expanded::Count(count) = expand(&line[at..end], into) else {
+    let Expanded::Count(count) = expand(&line[start..end], into) else {
         return Bytes::Malformed;
     };
     Bytes::Value {
@@ -140,22 +140,22 @@ pub(crate) fn fill(slice: &mut [u8], byte: u8) {
     }
 }
 
-// The place of the space or newline that ends the field at `at`; not within the line where nothing ends it.
-fn field_end(line: &[u8], at: usize) -> usize
-    ensures { λ r. ⌜ at ≤ r ⌝ }
+// The index of the space or newline that ends the field at `start`; an index outside the line if nothing ends it.
+fn field_end(line: &[u8], start: usize) -> usize
+    ensures { λ r. ⌜ start ≤ r ⌝ }
 {
-    if line.len() < at {
-        return at;
+    if line.len() < start {
+        return start;
     }
-    find(line, at, b' ', b'\n')
+    find_either(line, start, b' ', b'\n')
 }
 
-// The first place from at on that holds one of two bytes, or the text's length.
-fn find(text: &[u8], at: usize, one: u8, other: u8) -> usize
-    requires { ⌜ at ≤ length (now text) ⌝ }
-    ensures { λ r. ⌜ (at ≤ r) × (r ≤ length (now (text .entry))) ⌝ }
+// The first index from `start` on at which the text has one of two bytes, or the text's length.
+fn find_either(text: &[u8], start: usize, one: u8, other: u8) -> usize
+    requires { ⌜ start ≤ length (now text) ⌝ }
+    ensures { λ r. ⌜ (start ≤ r) × (r ≤ length (now (text .entry))) ⌝ }
 {
-    let mut i = at;
+    let mut i = start;
     while i < text.len() {
         if text[i] == one {
             return i;
@@ -168,7 +168,7 @@ fn find(text: &[u8], at: usize, one: u8, other: u8) -> usize
     i
 }
 
-// The number that a whole field says in decimal digits. One that no usize holds is malformed.
+// The value of a field that consists of decimal digits. A value that does not fit into a usize is malformed.
 fn decimal_of(field: &[u8]) -> Decimal {
     if field.len() == 0 {
         return Decimal::Malformed;
@@ -189,7 +189,7 @@ fn decimal_of(field: &[u8]) -> Decimal {
     Decimal::Value(value)
 }
 
-// The value of a hexadecimal digit, capitals alone; 16 for any other byte.
+// The value of a hexadecimal digit, in upper case; 16 for any other byte.
 fn digit(byte: u8) -> usize
     ensures { λ r. ⌜ r ≤ 16 ⌝ }
 {
@@ -200,9 +200,9 @@ fn digit(byte: u8) -> usize
     }
 }
 
-// Writes the bytes that a whole field stands for to the start of into; a hyphen is no byte. What does not fit is malformed.
+// Writes the bytes of a field to the first bytes of `into`. A field that is a hyphen has no bytes. One that does not fit is malformed.
 fn expand(field: &[u8], into: &mut [u8]) -> Expanded
-    ensures { λ r. ⌜ expandedTo r ≤ length (now (into .entry)) ⌝ }
+    ensures { λ r. ⌜ expandedCount r ≤ length (now (into .entry)) ⌝ }
 {
     if field.len() == 0 {
         return Expanded::Malformed;
@@ -213,14 +213,14 @@ fn expand(field: &[u8], into: &mut [u8]) -> Expanded
     expand_entries(field, into)
 }
 
-// The same of a field that is entries.
+// The same for a field that consists of entries.
 fn expand_entries(field: &[u8], into: &mut [u8]) -> Expanded
-    ensures { λ r. ⌜ expandedTo r ≤ length (now (into .entry)) ⌝ }
+    ensures { λ r. ⌜ expandedCount r ≤ length (now (into .entry)) ⌝ }
 {
     let mut count = 0;
-    let mut at = 0;
-    while at < field.len() {
-        let entry = next_entry(field, at);
+    let mut start = 0;
+    while start < field.len() {
+        let entry = next_entry(field, start);
         if entry.times == 0 {
             return Expanded::Malformed;
         }
@@ -230,32 +230,32 @@ fn expand_entries(field: &[u8], into: &mut [u8]) -> Expanded
         let end = count + entry.times;
         fill(&mut into[count..end], entry.byte);
         count = end;
-        at = entry.next;
+        start = entry.next;
     }
     Expanded::Count(count)
 }
 
-// The entry at `at`: two hexadecimal digits, and a star with the number of repeats if there are some.
-fn next_entry(field: &[u8], at: usize) -> Entry
-    requires { ⌜ at < length (now field) ⌝ }
-    ensures { λ r. ⌜ at < r .next ⌝ }
+// The entry at `start`: two hexadecimal digits, and a star and a number if the byte is repeated.
+fn next_entry(field: &[u8], start: usize) -> Entry
+    requires { ⌜ start < length (now field) ⌝ }
+    ensures { λ r. ⌜ start < r .next ⌝ }
 {
-    if field.len() - at < 2 {
-        return malformed(field);
+    if field.len() - start < 2 {
+        return malformed_entry(field);
     }
-    let high = digit(field[at]);
-    let low = digit(field[at + 1]);
+    let high = digit(field[start]);
+    let low = digit(field[start + 1]);
     if 15 < high {
-        return malformed(field);
+        return malformed_entry(field);
     }
     if 15 < low {
-        return malformed(field);
+        return malformed_entry(field);
     }
     let byte = (high * 16 + low) as u8;
-    let next = at + 2;
+    let next = start + 2;
     if next < field.len() {
         if field[next] == b'*' {
-            return repeated(field, next + 1, byte);
+            return repeated_entry(field, next + 1, byte);
         }
     }
     Entry {
@@ -265,17 +265,18 @@ fn next_entry(field: &[u8], at: usize) -> Entry
     }
 }
 
-// The entry of a byte whose number of repeats stands at `at`. A comma ends the number, and more must follow the comma.
-fn repeated(field: &[u8], at: usize, byte: u8) -> Entry
-    requires { ⌜ at ≤ length (now field) ⌝ }
-    ensures { λ r. ⌜ at ≤ r .next ⌝ }
+// The entry of a repeated byte. The number after its star begins at `start`. A comma ends the number, and another entry must
+// follow the comma.
+fn repeated_entry(field: &[u8], start: usize, byte: u8) -> Entry
+    requires { ⌜ start ≤ length (now field) ⌝ }
+    ensures { λ r. ⌜ start ≤ r .next ⌝ }
 {
-    let end = find(field, at, b',', b',');
-    let Decimal::Value(times) = decimal_of(&field[at..end]) else {
-        return malformed(field);
+    let end = find_either(field, start, b',', b',');
+    let Decimal::Value(times) = decimal_of(&field[start..end]) else {
+        return malformed_entry(field);
     };
     if times < 2 {
-        return malformed(field);
+        return malformed_entry(field);
     }
     if end == field.len() {
         return Entry {
@@ -286,13 +287,13 @@ fn repeated(field: &[u8], at: usize, byte: u8) -> Entry
     }
     let next = end + 1;
     if next == field.len() {
-        return malformed(field);
+        return malformed_entry(field);
     }
     Entry { byte, times, next }
 }
 
-// No entry: nothing of the field is left.
-fn malformed(field: &[u8]) -> Entry
+// The malformed entry. It ends where the field ends.
+fn malformed_entry(field: &[u8]) -> Entry
     ensures { λ r. ⌜ r .next ≡ length (now (field .entry)) ⌝ }
 {
     Entry {

@@ -1,89 +1,89 @@
-// What became of a case, and what is printed of it.
+// The result of replaying a line, and how it is printed.
 use libc::STDOUT_FILENO;
 ghost use Prim.Native.Nat.{_+_, _≤_, _<_};
 
-// An answer of any entry: a count, or the number of a refusal.
+// The answer of a call: a number of bytes, or the number of a refusal.
 pub(crate) struct Answer {
     pub(crate) refused: bool,
     pub(crate) number: usize,
 }
 
-// What replaying a line gave.
-pub(crate) enum Outcome {
+// The result of replaying a line.
+pub(crate) enum LineResult {
     Equal,
-    // The two answers; whether a header record that is returned is the right one; whether the destination holds what it
-    // should; whether the bytes around it are untouched.
+    // The two answers; whether the returned header record, if there is one, is the expected one; whether each slice that could be
+    // written has the expected bytes; whether the guard bytes around it are unchanged.
     Different {
         expected: Answer,
         got: Answer,
-        sent: bool,
-        written: bool,
-        untouched: bool,
+        header_equal: bool,
+        bytes_equal: bool,
+        guards_unchanged: bool,
     },
     Malformed,
     Comment,
 }
 
-// How many lines had each outcome. Comments are not counted.
+// How many lines had each result. Comments are not counted.
 pub(crate) struct Tally {
     pub(crate) equal: usize,
     pub(crate) different: usize,
     pub(crate) malformed: usize,
 }
 
-// The outcome of a case that was run.
-pub(crate) fn compared(
+// The result of a case whose call was made.
+pub(crate) fn case_result(
     expected: Answer,
     got: Answer,
-    sent: bool,
-    written: bool,
-    untouched: bool,
-) -> Outcome {
+    header_equal: bool,
+    bytes_equal: bool,
+    guards_unchanged: bool,
+) -> LineResult {
     let same = got.refused == expected.refused && got.number == expected.number;
-    if same && sent && written && untouched {
-        return Outcome::Equal;
+    if same && header_equal && bytes_equal && guards_unchanged {
+        return LineResult::Equal;
     }
-    Outcome::Different {
+    LineResult::Different {
         expected,
         got,
-        sent,
-        written,
-        untouched,
+        header_equal,
+        bytes_equal,
+        guards_unchanged,
     }
 }
 
-// The tally with one outcome more.
-pub(crate) fn counted(tally: Tally, outcome: Outcome) -> Tally
+// The tally with one more result.
+pub(crate) fn add_result(tally: Tally, result: LineResult) -> Tally
     requires { ⌜ tally .equal + tally .different + tally .malformed < 18446744073709551615 ⌝ }
     ensures { λ r. ⌜ r .equal + r .different + r .malformed ≤ tally .equal + tally .different + tally .malformed + 1 ⌝ }
 {
-    match outcome {
-        Outcome::Equal => Tally {
+    match result {
+        LineResult::Equal => Tally {
             equal: tally.equal + 1,
             different: tally.different,
             malformed: tally.malformed,
         },
-        Outcome::Different {
+        LineResult::Different {
             expected: _,
             got: _,
-            sent: _,
-            written: _,
-            untouched: _,
+            header_equal: _,
+            bytes_equal: _,
+            guards_unchanged: _,
         } => Tally {
             equal: tally.equal,
             different: tally.different + 1,
             malformed: tally.malformed,
         },
-        Outcome::Malformed => Tally {
+        LineResult::Malformed => Tally {
             equal: tally.equal,
             different: tally.different,
             malformed: tally.malformed + 1,
         },
-        Outcome::Comment => tally,
+        LineResult::Comment => tally,
     }
 }
 
-// Prints the line of a file that could not be replayed.
+// Prints why a file could not be replayed.
 pub(crate) fn print_error(path: &[u8], why: &[u8]) {
     print(path);
     print(b": ");
@@ -91,7 +91,7 @@ pub(crate) fn print_error(path: &[u8], why: &[u8]) {
     print(b"\n");
 }
 
-// Prints the line of a file that was replayed.
+// Prints the tally of a file.
 pub(crate) fn print_tally(path: &[u8], tally: Tally)
     requires { ⌜ tally .equal + tally .different < 18446744073709551615 ⌝ }
 {
@@ -103,53 +103,59 @@ pub(crate) fn print_tally(path: &[u8], tally: Tally)
     print_count(tally.malformed, b" bad lines\n");
 }
 
-// Prints what went wrong at a line; of one that came out as stored, nothing.
-pub(crate) fn print_outcome(path: &[u8], line: usize, outcome: Outcome) {
-    match outcome {
-        Outcome::Equal => {}
-        Outcome::Comment => {}
-        Outcome::Malformed => {
-            print_place(path, line);
+// Prints what is wrong with a line. For a comment, or a case that gave the stored result, it prints nothing.
+pub(crate) fn print_result(path: &[u8], line: usize, result: LineResult) {
+    match result {
+        LineResult::Equal => {}
+        LineResult::Comment => {}
+        LineResult::Malformed => {
+            print_location(path, line);
             print(b"bad line\n");
         }
-        Outcome::Different {
+        LineResult::Different {
             expected,
             got,
-            sent,
-            written,
-            untouched,
+            header_equal,
+            bytes_equal,
+            guards_unchanged,
         } => {
-            print_place(path, line);
-            print_difference(expected, got, sent, written, untouched);
+            print_location(path, line);
+            print_difference(expected, got, header_equal, bytes_equal, guards_unchanged);
         }
     }
 }
 
-fn print_place(path: &[u8], line: usize) {
+fn print_location(path: &[u8], line: usize) {
     print(path);
     print(b", line ");
     print_number(line);
     print(b": ");
 }
 
-fn print_difference(expected: Answer, got: Answer, sent: bool, written: bool, untouched: bool) {
+fn print_difference(
+    expected: Answer,
+    got: Answer,
+    header_equal: bool,
+    bytes_equal: bool,
+    guards_unchanged: bool,
+) {
     print(b"expected ");
     print_answer(expected);
     print(b", got ");
     print_answer(got);
-    if !sent {
+    if !header_equal {
         print(b"; the header record differs");
     }
-    if !written {
+    if !bytes_equal {
         print(b"; the destination differs");
     }
-    if !untouched {
+    if !guards_unchanged {
         print(b"; bytes around the destination were changed");
     }
     print(b"\n");
 }
 
-// An answer as a line of data has it.
+// Prints an answer as a data file has it.
 fn print_answer(answer: Answer) {
     if answer.refused {
         print(b"-");
@@ -157,7 +163,7 @@ fn print_answer(answer: Answer) {
     print_number(answer.number);
 }
 
-// Prints a number, and the words behind it.
+// Prints a number and the words that follow it.
 fn print_count(number: usize, words: &[u8]) {
     print_number(number);
     print(words);

@@ -1,4 +1,4 @@
--- `next_field` is safe: what was read is what `next_bytes` counts. Assumes nothing.
+-- `next_field` is safe: its count is the one that `next_bytes` returns. Assumes nothing.
 use borrow.Author.Needs.{needs}
 use Rattle.vectors.proofs.encode.next_field.Statement.{statement}
 use Rattle.vectors.proofs.encode.next_field.Tie as tie

@@ -1,4 +1,4 @@
--- `replay_lines` is safe and ends: each line has a byte at least, so the counts stay within the text. Assumes nothing.
+-- `replay_lines` is safe and ends: each line has at least one byte, so no count exceeds the length of the text. Assumes nothing.
 use Prim.Native.Nat.{_≤_, _-_, _+_}
 use borrow.Author.Needs.{needs}
 use lib.ListN.{length}
@@ -6,10 +6,10 @@ use Rattle.vectors.proofs.file.replay_lines.Statement.{statement}
 use Rattle.vectors.proofs.file.replay_lines.Tie as tie
 
 abbrev Inv-loop : tie.InvT-loop
-Inv-loop kind path text tally₀ line₀ at₀ tally line at = (at ≤ length text) × (line ≤ at) × (tally .equal + tally .different + tally .malformed ≤ at)
+Inv-loop kind path text tally₀ line₀ start₀ tally line start = (start ≤ length text) × (line ≤ start) × (tally .equal + tally .different + tally .malformed ≤ start)
 
 abbrev μ-loop : tie.MeasureT-loop
-μ-loop kind path text tally₀ line₀ at₀ tally line at = length text - at
+μ-loop kind path text tally₀ line₀ start₀ tally line start = length text - start
 
 loop-holds : tie.Need-loop-holds Inv-loop μ-loop
 loop-holds c = search needs
@@ -35,11 +35,11 @@ add-line c = search needs
 add-if1 : tie.Need-add-if1 Inv-loop μ-loop
 add-if1 c = search needs
 
-print-outcome-requires : tie.Need-print-outcome-requires Inv-loop μ-loop
-print-outcome-requires c κs = search needs
+print-result-requires : tie.Need-print-result-requires Inv-loop μ-loop
+print-result-requires c κs = search needs
 
-counted-requires : tie.Need-counted-requires Inv-loop μ-loop
-counted-requires c κs = search needs
+add-result-requires : tie.Need-add-result-requires Inv-loop μ-loop
+add-result-requires c κs = search needs
 
 loop-less : tie.Need-loop-less Inv-loop μ-loop
 loop-less c = search needs
@@ -64,8 +64,8 @@ replay-lines-spec =
     replay-line-requires
     add-line
     add-if1
-    print-outcome-requires
-    counted-requires
+    print-result-requires
+    add-result-requires
     loop-less
     loop-again
     returns)

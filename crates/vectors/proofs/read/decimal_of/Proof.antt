@@ -1,4 +1,4 @@
--- `decimal_of` is safe and ends: the number is tested before each digit joins it. Assumes nothing.
+-- `decimal_of` is safe and ends: the value is tested for overflow before each digit is added. Assumes nothing.
 use Prim.Native.Nat.{_≤_, _-_}
 use borrow.Author.Needs.{needs}
 use lib.ListN.{length}

@@ -1,4 +1,4 @@
--- `expand_entries` is safe and ends: each entry takes a byte of the field at least, and what is written stays within `into`. Assumes nothing.
+-- `expand_entries` is safe and ends: each entry has at least one byte of the field, and no byte is written outside `into`. Assumes nothing.
 use Prim.Native.Nat.{_≤_, _-_}
 use borrow.Author.Needs.{needs}
 use mathlib.Core.Path.{_≡_}
@@ -7,10 +7,10 @@ use Rattle.vectors.proofs.read.expand_entries.Statement.{statement}
 use Rattle.vectors.proofs.read.expand_entries.Tie as tie
 
 abbrev Inv-loop : tie.InvT-loop
-Inv-loop field into₀ count₀ at₀ into count at = (count ≤ length into) × (length into ≡ length into₀)
+Inv-loop field into₀ count₀ start₀ into count start = (count ≤ length into) × (length into ≡ length into₀)
 
 abbrev μ-loop : tie.MeasureT-loop
-μ-loop field into₀ count₀ at₀ into count at = length field - at
+μ-loop field into₀ count₀ start₀ into count start = length field - start
 
 loop-holds : tie.Need-loop-holds Inv-loop μ-loop
 loop-holds c = search needs

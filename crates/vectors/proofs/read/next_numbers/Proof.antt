@@ -1,14 +1,14 @@
--- `next_numbers` is safe and ends: there is a place for each number. Assumes nothing.
+-- `next_numbers` is safe and ends: the array has an element for each number. Assumes nothing.
 use Prim.Native.Nat.{_≤_, _-_}
 use borrow.Author.Needs.{needs}
 use Rattle.vectors.proofs.read.next_numbers.Statement.{statement}
 use Rattle.vectors.proofs.read.next_numbers.Tie as tie
 
 abbrev Inv-loop : tie.InvT-loop
-Inv-loop line at count numbers₀ place₀ i₀ numbers place i = i ≤ count
+Inv-loop line start count numbers₀ index₀ i₀ numbers index i = i ≤ count
 
 abbrev μ-loop : tie.MeasureT-loop
-μ-loop line at count numbers₀ place₀ i₀ numbers place i = count - i
+μ-loop line start count numbers₀ index₀ i₀ numbers index i = count - i
 
 loop-holds : tie.Need-loop-holds Inv-loop μ-loop
 loop-holds c = search needs

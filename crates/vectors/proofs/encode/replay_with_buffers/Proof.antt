@@ -1,18 +1,18 @@
--- `replay_in` is safe: the bytes that are given and the destination lie within the room for them. Assumes nothing.
+-- `replay_with_buffers` is safe: the source and the expected bytes lie within their buffers, and the destination within its array. Assumes nothing.
 use native.Mathlib.Omega.{arith}
 use lib.ListN.{length-take}
 use borrow.Author.Needs.{needs}
-use Rattle.vectors.proofs.encode.replay_in.Statement.{statement}
-use Rattle.vectors.proofs.encode.replay_in.Tie as tie
+use Rattle.vectors.proofs.encode.replay_with_buffers.Statement.{statement}
+use Rattle.vectors.proofs.encode.replay_with_buffers.Tie as tie
 
-read-given-requires : tie.Need-read-given-requires
-read-given-requires c κs = search needs
+read-sources-requires : tie.Need-read-sources-requires
+read-sources-requires c κs = search needs
 
 next-field-requires : tie.Need-next-field-requires
 next-field-requires c κs = search needs
 
-is-whole-requires : tie.Need-is-whole-requires
-is-whole-requires c κs = search needs
+is-complete-requires : tie.Need-is-complete-requires
+is-complete-requires c κs = search needs
 
 same-length : tie.Need-same-length
 same-length c = search needs
@@ -101,13 +101,13 @@ same-length-11 c = search needs
 returns-2 : tie.Need-returns-2
 returns-2 c = search needs
 
-pub replay-in-spec : {M : Type 1} → statement M
-replay-in-spec =
+pub replay-with-buffers-spec : {M : Type 1} → statement M
+replay-with-buffers-spec =
     tie.close
     (tie.spec
-    read-given-requires
+    read-sources-requires
     next-field-requires
-    is-whole-requires
+    is-complete-requires
     same-length
     same-length-2
     same-length-3

@@ -1,10 +1,10 @@
--- `replay_in` is safe: the bytes that are given and the destination lie within the room for them. Assumes nothing.
+-- `replay_with_buffers` is safe: the source and the expected bytes lie within their buffers, and the destination within its array. Assumes nothing.
 use native.Mathlib.Omega.{arith}
 use Prim.Native.Nat.{_≤_}
 use lib.ListN.{length, length-take}
 use borrow.Author.Needs.{needs}
-use Rattle.vectors.proofs.plane.replay_in.Statement.{statement}
-use Rattle.vectors.proofs.plane.replay_in.Tie as tie
+use Rattle.vectors.proofs.plane.replay_with_buffers.Statement.{statement}
+use Rattle.vectors.proofs.plane.replay_with_buffers.Tie as tie
 
 next-bytes-requires : tie.Need-next-bytes-requires
 next-bytes-requires c κs = search needs
@@ -39,8 +39,8 @@ same-length-3 c = search needs
 returns-2 : tie.Need-returns-2
 returns-2 c = search needs
 
-is-whole-requires : tie.Need-is-whole-requires
-is-whole-requires c κs = search needs
+is-complete-requires : tie.Need-is-complete-requires
+is-complete-requires c κs = search needs
 
 same-length-4 : tie.Need-same-length-4
 same-length-4 c = search needs
@@ -68,7 +68,7 @@ sub-run-2 c = search needs
 part-run-start-2 : tie.Need-part-run-start-2
 part-run-start-2 c = search needs
 
--- the function's entry, from where the last field is read
+-- the state at the start of the function, reached from the state after the last field was read
 abbrev entry : tie.After-room → tie.Start
 entry p = p .before .before .before .before .before .before .before .before .before .before .before .before .before .before .before .before .before
 
@@ -95,8 +95,8 @@ same-length-8 c = search needs
 returns-4 : tie.Need-returns-4
 returns-4 c = search needs
 
-pub replay-in-spec : {M : Type 1} → statement M
-replay-in-spec =
+pub replay-with-buffers-spec : {M : Type 1} → statement M
+replay-with-buffers-spec =
     tie.close
     (tie.spec
     next-bytes-requires
@@ -110,7 +110,7 @@ replay-in-spec =
     same-length-2
     same-length-3
     returns-2
-    is-whole-requires
+    is-complete-requires
     same-length-4
     same-length-5
     returns-3

@@ -1,8 +1,8 @@
--- `next_held_in` is safe: the bytes that were read lie within the room for them. Assumes nothing.
+-- `compare_field_with_buffer` is safe: the bytes that were read lie within the buffer. Assumes nothing.
 use native.Mathlib.Omega.{arith}
 use borrow.Author.Needs.{needs}
-use Rattle.vectors.proofs.picture.next_held_in.Statement.{statement}
-use Rattle.vectors.proofs.picture.next_held_in.Tie as tie
+use Rattle.vectors.proofs.picture.compare_field_with_buffer.Statement.{statement}
+use Rattle.vectors.proofs.picture.compare_field_with_buffer.Tie as tie
 
 next-bytes-requires : tie.Need-next-bytes-requires
 next-bytes-requires c κs = search needs
@@ -25,19 +25,19 @@ same-length-2 c = search needs
 returns-2 : tie.Need-returns-2
 returns-2 c = search needs
 
-sub-look-at : tie.Need-sub-look-at
-sub-look-at c = search needs
+sub-compare-slice : tie.Need-sub-compare-slice
+sub-compare-slice c = search needs
 
-part-look-at-start : tie.Need-part-look-at-start
-part-look-at-start c = search needs
+part-compare-slice-start : tie.Need-part-compare-slice-start
+part-compare-slice-start c = search needs
 
-part-look-at-end : tie.Need-part-look-at-end
-part-look-at-end c =
+part-compare-slice-end : tie.Need-part-compare-slice-end
+part-compare-slice-end c =
     let p = c .before .before .before in
     omega (arith, rw (p .count .given .1) at (p .before .before .before .before .next-bytes .ensures))
 
-look-at-requires : tie.Need-look-at-requires
-look-at-requires c κs = search needs
+compare-slice-requires : tie.Need-compare-slice-requires
+compare-slice-requires c κs = search needs
 
 same-length-3 : tie.Need-same-length-3
 same-length-3 c = search needs
@@ -45,8 +45,8 @@ same-length-3 c = search needs
 returns-3 : tie.Need-returns-3
 returns-3 c = search needs
 
-pub next-held-in-spec : {M : Type 1} → statement M
-next-held-in-spec =
+pub compare-field-with-buffer-spec : {M : Type 1} → statement M
+compare-field-with-buffer-spec =
     tie.close
     (tie.spec
     next-bytes-requires
@@ -56,9 +56,9 @@ next-held-in-spec =
     returns
     same-length-2
     returns-2
-    sub-look-at
-    part-look-at-start
-    part-look-at-end
-    look-at-requires
+    sub-compare-slice
+    part-compare-slice-start
+    part-compare-slice-end
+    compare-slice-requires
     same-length-3
     returns-3)

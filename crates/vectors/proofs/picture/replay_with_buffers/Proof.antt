@@ -1,8 +1,8 @@
--- `replay_in` is safe: the body lies within the room for it, and both slices in theirs. Assumes nothing.
+-- `replay_with_buffers` is safe: the body lies within its buffer, the work area and the image each within their array. Assumes nothing.
 use native.Mathlib.Omega.{arith}
 use borrow.Author.Needs.{needs}
-use Rattle.vectors.proofs.picture.replay_in.Statement.{statement}
-use Rattle.vectors.proofs.picture.replay_in.Tie as tie
+use Rattle.vectors.proofs.picture.replay_with_buffers.Statement.{statement}
+use Rattle.vectors.proofs.picture.replay_with_buffers.Tie as tie
 
 returns : tie.Need-returns
 returns c = search needs
@@ -31,40 +31,40 @@ add-work-end c = search needs
 add-image-end : tie.Need-add-image-end
 add-image-end c = search needs
 
-sub-run : tie.Need-sub-run
-sub-run c = search needs
+sub-call : tie.Need-sub-call
+sub-call c = search needs
 
-part-run-start : tie.Need-part-run-start
-part-run-start c = search needs
+part-call-start : tie.Need-part-call-start
+part-call-start c = search needs
 
-part-run-end : tie.Need-part-run-end
-part-run-end c =
+part-call-end : tie.Need-part-call-end
+part-call-end c =
     let p = c .before .before .before .before in
     omega (arith, rw (p .count .given .1) at (p .before .before .before .before .next-bytes .ensures))
 
-sub-run-2 : tie.Need-sub-run-2
-sub-run-2 c = search needs
+sub-call-2 : tie.Need-sub-call-2
+sub-call-2 c = search needs
 
-part-run-start-2 : tie.Need-part-run-start-2
-part-run-start-2 c = search needs
+part-call-start-2 : tie.Need-part-call-start-2
+part-call-start-2 c = search needs
 
-part-run-end-2 : tie.Need-part-run-end-2
-part-run-end-2 c = search needs
+part-call-end-2 : tie.Need-part-call-end-2
+part-call-end-2 c = search needs
 
-sub-run-3 : tie.Need-sub-run-3
-sub-run-3 c = search needs
+sub-call-3 : tie.Need-sub-call-3
+sub-call-3 c = search needs
 
-part-run-start-3 : tie.Need-part-run-start-3
-part-run-start-3 c = search needs
+part-call-start-3 : tie.Need-part-call-start-3
+part-call-start-3 c = search needs
 
-part-run-end-3 : tie.Need-part-run-end-3
-part-run-end-3 c = search needs
+part-call-end-3 : tie.Need-part-call-end-3
+part-call-end-3 c = search needs
 
-run-requires : tie.Need-run-requires
-run-requires c κs = search needs
+call-requires : tie.Need-call-requires
+call-requires c κs = search needs
 
-compared-requires : tie.Need-compared-requires
-compared-requires c κs =
+compare-requires : tie.Need-compare-requires
+compare-requires c κs =
     let e = c .before .before .before .before .before .before .before .before .before .before .before .before .before .before .before .before .before .before .before .before in
     let s = e .before .before .before .before .before .before .before .before in (
       omega (arith, s .pre .0, e .before .before .if1 .left, c .before .before .before .before .before .work .given .1, c .before .before .before .image .given .1),
@@ -83,8 +83,8 @@ same-length-4 c = search needs
 returns-4 : tie.Need-returns-4
 returns-4 c = search needs
 
-pub replay-in-spec : {M : Type 1} → statement M
-replay-in-spec =
+pub replay-with-buffers-spec : {M : Type 1} → statement M
+replay-with-buffers-spec =
     tie.close
     (tie.spec
     returns
@@ -96,17 +96,17 @@ replay-in-spec =
     returns-3
     add-work-end
     add-image-end
-    sub-run
-    part-run-start
-    part-run-end
-    sub-run-2
-    part-run-start-2
-    part-run-end-2
-    sub-run-3
-    part-run-start-3
-    part-run-end-3
-    run-requires
-    compared-requires
+    sub-call
+    part-call-start
+    part-call-end
+    sub-call-2
+    part-call-start-2
+    part-call-end-2
+    sub-call-3
+    part-call-start-3
+    part-call-end-3
+    call-requires
+    compare-requires
     same-length-2
     same-length-3
     same-length-4

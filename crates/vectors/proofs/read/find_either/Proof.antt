@@ -1,15 +1,15 @@
--- `find` is safe and ends within the text. Assumes nothing.
+-- `find_either` is safe and ends within the text. Assumes nothing.
 use Prim.Native.Nat.{_≤_, _-_}
 use borrow.Author.Needs.{needs}
 use lib.ListN.{length}
-use Rattle.vectors.proofs.read.find.Statement.{statement}
-use Rattle.vectors.proofs.read.find.Tie as tie
+use Rattle.vectors.proofs.read.find_either.Statement.{statement}
+use Rattle.vectors.proofs.read.find_either.Tie as tie
 
 abbrev Inv-loop : tie.InvT-loop
-Inv-loop text at one other i₀ i = (at ≤ i) × (i ≤ length text)
+Inv-loop text start one other i₀ i = (start ≤ i) × (i ≤ length text)
 
 abbrev μ-loop : tie.MeasureT-loop
-μ-loop text at one other i₀ i = length text - i
+μ-loop text start one other i₀ i = length text - i
 
 loop-holds : tie.Need-loop-holds Inv-loop μ-loop
 loop-holds c = search needs
@@ -38,8 +38,8 @@ loop-again c = search needs
 returns-3 : tie.Need-returns-3 Inv-loop μ-loop
 returns-3 c = search needs
 
-pub find-spec : {M : Type 1} → statement M
-find-spec =
+pub find-either-spec : {M : Type 1} → statement M
+find-either-spec =
     tie.close
     (tie.spec
     Inv-loop
