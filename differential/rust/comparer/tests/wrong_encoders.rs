@@ -792,13 +792,13 @@ wrong!(the_decoders_number_for_a_short_source, "pc 1 1 0 - - - none -", {
 // Their limits.
 
 wrong!(sides_of_8193_taken, "pc 1 8193 0 - - - none -", {
-    fn most_side() -> usize {
+    fn max_side() -> usize {
         MAX_SIDE + 1
     }
 });
 
 wrong!(sides_of_8192_refused, "pc 1 8192 0 - - - none -", {
-    fn most_side() -> usize {
+    fn max_side() -> usize {
         MAX_SIDE - 1
     }
 });
@@ -887,7 +887,7 @@ wrong!(a_longer_source_of_a_raw_picture_refused, "pc 1 1 0 00 00 0000 none -", {
 });
 
 wrong!(half_a_pixel_counted, "pb 1 1 0 0 00 -", {
-    fn whole_pixels(len: usize) -> usize {
+    fn complete_pixels(len: usize) -> usize {
         len.div_ceil(4)
     }
 });
@@ -902,13 +902,13 @@ wrong!(a_pixel_without_its_alpha_counted, "pb 1 1 0 0 000000 -", {
 });
 
 wrong!(pixels_of_three_bytes_counted, "pb 1 1 0 0 000000 -", {
-    fn whole_pixels(len: usize) -> usize {
+    fn complete_pixels(len: usize) -> usize {
         len / 3
     }
 });
 
 wrong!(bytes_counted_for_pixels, "pb 1 1 0 0 00 -", {
-    fn whole_pixels(len: usize) -> usize {
+    fn complete_pixels(len: usize) -> usize {
         len
     }
 });
@@ -1060,8 +1060,7 @@ macro_rules! wrong_in_fixed {
             impl Encoder for Wrong {
                 $($steps)*
             }
-            let difference = SEARCH.difference_in(with::<Wrong>()).expect("a mistake is found");
-            assert_eq!(difference.case.to_string(), $smallest, "{difference}");
+            SEARCH.finds_in_fixed(with::<Wrong>(), $smallest);
         }
     };
 }

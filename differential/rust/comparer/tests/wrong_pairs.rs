@@ -2,9 +2,9 @@
 
 mod support;
 
-use comparer::demand::random::Random;
-use comparer::demand::{fixed, Model};
 use comparer::planes::{counts, segment_starts};
+use comparer::prefix::random::Random;
+use comparer::prefix::{fixed, Model};
 use comparer::{Function, Library};
 use support::{exported, Call, RightPack, Search, Slices, RIGHT_LIBRARY, RIGHT_UNPACK};
 
@@ -179,81 +179,81 @@ fn a_right_pair_has_no_difference() {
 fn complements_packed_and_unpacked() {
     pair_is_found(
         Library { unpack: exported::<UnpackComplements>, pack: exported::<PackComplements>, ..RIGHT_LIBRARY },
-        "d3 1 1 00 0 - EE",
+        "px 1 1 00 0 - EE",
     );
 }
 
 #[test]
 fn every_value_a_segment_of_its_own() {
-    pair_is_found(Library { pack: exported::<PackSingly>, ..RIGHT_LIBRARY }, "d3 2 1 0000 0 - EEEE");
+    pair_is_found(Library { pack: exported::<PackSingly>, ..RIGHT_LIBRARY }, "px 2 1 0000 0 - EEEE");
 }
 
 #[test]
 fn an_unpacker_that_says_7_at_once() {
-    is_found(exported::<Unpacker<ALWAYS_7>>, "d3 1 1 00 2 - EE");
+    is_found(exported::<Unpacker<ALWAYS_7>>, "px 1 1 00 2 - EE");
 }
 
 #[test]
 fn nothing_unpacked_if_bytes_are_missing() {
-    is_found(exported::<Unpacker<SEVEN_IF_CUT>>, "d3 1 2 0000 2 - EEEE");
+    is_found(exported::<Unpacker<SEVEN_IF_CUT>>, "px 1 2 0000 2 - EEEE");
 }
 
 #[test]
 fn an_invented_read_count() {
-    is_found(exported::<Unpacker<INVENTED_COUNT>>, "d3 1 1 00 2 - EE");
+    is_found(exported::<Unpacker<INVENTED_COUNT>>, "px 1 1 00 2 - EE");
 }
 
 #[test]
 fn following_bytes_counted() {
-    is_found(exported::<Unpacker<COUNT_IS_ALL>>, "d3 1 1 00 2 00 EE");
+    is_found(exported::<Unpacker<COUNT_IS_ALL>>, "px 1 1 00 2 00 EE");
 }
 
 #[test]
 fn the_next_row_as_samples() {
-    is_found(exported::<Unpacker<NEXT_ROW_AS_SAMPLES>>, "d3 5 2 00000100010000010000 8 - EE*10");
+    is_found(exported::<Unpacker<NEXT_ROW_AS_SAMPLES>>, "px 5 2 00000100010000010000 8 - EE*10");
 }
 
 #[test]
 fn the_next_row_untouched() {
-    is_found(exported::<Unpacker<NEXT_ROW_UNTOUCHED>>, "d3 5 1 00*4,01 2 - EE*5");
+    is_found(exported::<Unpacker<NEXT_ROW_UNTOUCHED>>, "px 5 1 00*4,01 2 - EE*5");
 }
 
 #[test]
 fn the_rest_of_the_next_row_cleared() {
-    is_found(exported::<Unpacker<NEXT_ROW_CLEARED>>, "d3 1 1 00 0 - EE");
+    is_found(exported::<Unpacker<NEXT_ROW_CLEARED>>, "px 1 1 00 0 - EE");
 }
 
 #[test]
 fn part_of_a_segment_unpacked() {
-    is_found(exported::<Unpacker<HALF_A_SEGMENT>>, "d3 2 1 0000 2 - EEEE");
+    is_found(exported::<Unpacker<HALF_A_SEGMENT>>, "px 2 1 0000 2 - EEEE");
 }
 
 #[test]
 fn a_finished_row_left_coded() {
-    is_found(exported::<Unpacker<LAST_ROW_CODED>>, "d3 1 3 010000 4 - EEEEEE");
+    is_found(exported::<Unpacker<LAST_ROW_CODED>>, "px 1 3 010000 4 - EEEEEE");
 }
 
 #[test]
 fn bytes_beyond_the_plane_cleared() {
-    is_found(exported::<Unpacker<REST_CLEARED>>, "d3 1 1 00 2 - EEEE");
+    is_found(exported::<Unpacker<REST_CLEARED>>, "px 1 1 00 2 - EEEE");
 }
 
 #[test]
 fn the_first_row_copied_down() {
-    is_found(exported::<Unpacker<FIRST_ROW_COPIED>>, "d3 1 2 0001 4 - EEEE");
+    is_found(exported::<Unpacker<FIRST_ROW_COPIED>>, "px 1 2 0001 4 - EEEE");
 }
 
 #[test]
 fn a_cut_packing_taken_for_whole() {
-    is_found(exported::<Unpacker<CUT_TAKEN>>, "d3 1 1 00 0 - EE");
+    is_found(exported::<Unpacker<CUT_TAKEN>>, "px 1 1 00 0 - EE");
 }
 
 #[test]
 fn refusal_8_for_7() {
-    is_found(exported::<Unpacker<EIGHT_FOR_SEVEN>>, "d3 1 1 00 0 - EE");
+    is_found(exported::<Unpacker<EIGHT_FOR_SEVEN>>, "px 1 1 00 0 - EE");
 }
 
 #[test]
 fn following_bytes_refused() {
-    is_found(exported::<Unpacker<FOLLOWING_REFUSED>>, "d3 1 1 00 2 00 EE");
+    is_found(exported::<Unpacker<FOLLOWING_REFUSED>>, "px 1 1 00 2 00 EE");
 }

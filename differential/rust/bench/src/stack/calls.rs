@@ -6,7 +6,7 @@ use super::RETURN;
 use comparer::encoding::given::pixels;
 use comparer::encoding::Sources;
 use comparer::picture::{Form, Planes};
-use comparer::planes::Look;
+use comparer::planes::PlaneKind;
 use comparer::Rng;
 use std::hint::black_box;
 
@@ -64,7 +64,7 @@ impl Case {
     }
 }
 
-const LOOKS: [Look; 4] = [Look::Runs, Look::Noise, Look::FlatPage, Look::RowsAlike];
+const PLANE_KINDS: [PlaneKind; 4] = [PlaneKind::Runs, PlaneKind::Noise, PlaneKind::FlatPage, PlaneKind::RowsAlike];
 const WIDTHS: [usize; 10] = [1, 2, 16, 17, 20, 31, 32, 64, 1100, 8192];
 const HEIGHTS: [usize; 2] = [1, 3];
 
@@ -74,8 +74,8 @@ fn cases(form: Form, room: usize, source: impl Fn(&Planes, usize, usize) -> Vec<
     let rng = &mut Rng::new(1027);
     let mut cases = Vec::new();
     for (width, height) in WIDTHS.into_iter().flat_map(|width| HEIGHTS.map(|height| (width, height))) {
-        for look in LOOKS {
-            let planes = Planes::with_looks(rng, form, (width, height), &[look]);
+        for look in PLANE_KINDS {
+            let planes = Planes::with_kinds(rng, form, (width, height), &[look]);
             let (source, room) = (source(&planes, width, height), room * width * height + 1);
             cases.extend(Case { form, source, room, width, height }.variations());
         }
@@ -202,7 +202,8 @@ fn of_image_size() -> usize {
 
 /// Every C function with the most stack that it took.
 pub fn deepest() -> [(&'static str, usize); 9] {
-    let packed = |plane: &[u8], width, height| original::pack(plane, width, height).expect("a whole plane with room");
+    let packed =
+        |plane: &[u8], width, height| original::pack(plane, width, height).expect("a complete plane with room");
     [
         ("rdp6_decompress_8bpp_plane", of_plane(ours::rdp6_decompress_8bpp_plane, 1, packed)),
         ("rdp6_compress_8bpp_plane", of_plane(ours::rdp6_compress_8bpp_plane, 2, |plane, _, _| plane.to_vec())),

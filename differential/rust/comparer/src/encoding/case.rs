@@ -165,7 +165,7 @@ impl Encoding<&[u8]> {
     }
 
     /// What IronRDP answers. `after` is its destination, which begins with a byte for the header.
-    pub fn by_rust(&self, after: &mut [u8]) -> Encoded {
+    pub fn by_ironrdp(&self, after: &mut [u8]) -> Encoded {
         let Encoding { width, height, rle, .. } = *self;
         match self.sources {
             Sources::Channels { colours, alpha } => {

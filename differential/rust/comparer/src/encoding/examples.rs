@@ -80,7 +80,7 @@ mod tests {
             let mut judged_after = [&[0], &case.before[..]].concat();
             let judged = match case.refused_at_entry() {
                 Some(number) => -i64::from(number),
-                None => case.view().with_first_samples().by_rust(&mut judged_after).answer.number().unwrap(),
+                None => case.view().with_first_samples().by_ironrdp(&mut judged_after).answer.number().unwrap(),
             };
             assert_eq!((judged, bytes::text(&judged_after[1..])), (answer, after.to_owned()), "{text}");
         }

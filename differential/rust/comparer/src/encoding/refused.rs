@@ -1,7 +1,7 @@
 //! The part of the fixed cases that is about the tests before anything is read, 1, 2 and 11, their limits and their order; and
 //! about sources that are longer than the picture.
 
-use crate::case::{MAX_SIDE, TELLING_SIDES};
+use crate::case::{BOUNDARY_SIDES, MAX_SIDE};
 use crate::check::{Comparer, Outcome};
 use crate::encoding::case::STRIDE;
 use crate::encoding::given::{self, both, given, ALPHAS, FORMS};
@@ -33,7 +33,7 @@ fn of_every_entry(noise: &[u8], len: usize) -> [Sources<&[u8]>; 4] {
 /// or wraps to a small number.
 fn table_of_sides(comparer: &mut Comparer, earlier: &mut Earlier) -> Outcome {
     let noise = Rng::new(31).bytes(5000);
-    for sides in TELLING_SIDES.into_iter().flat_map(|width| TELLING_SIDES.map(|height| (width, height))) {
+    for sides in BOUNDARY_SIDES.into_iter().flat_map(|width| BOUNDARY_SIDES.map(|height| (width, height))) {
         for len in [0, 1, 3, 4, 9, 64, 4096] {
             for sources in of_every_entry(&noise, len) {
                 for (rle, room) in FORMS.into_iter().flat_map(|rle| [0, 1, 20, 200].map(|room| (rle, room))) {

@@ -71,7 +71,7 @@ mod tests {
             let mut made = Vec::new();
             let judged = match case.view().refused_outside() {
                 Some(number) => -i64::from(number),
-                None => case.view().by_rust(&mut case.work.clone(), &mut made).unwrap().number().unwrap(),
+                None => case.view().by_ironrdp(&mut case.work.clone(), &mut made).unwrap().number().unwrap(),
             };
             made.extend_from_slice(&case.image[made.len()..]);
             assert_eq!((judged, bytes::text(&made)), (answer, image.to_owned()), "{text}");

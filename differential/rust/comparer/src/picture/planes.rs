@@ -3,7 +3,7 @@
 use crate::case::MAX_SIDE;
 use crate::check::{Comparer, Outcome};
 use crate::picture::{Form, OwnedPicture, Picture};
-use crate::planes::{self, Earlier, Look, LOOKS};
+use crate::planes::{self, Earlier, PlaneKind, PLANE_KINDS};
 use crate::rng::Rng;
 use crate::tally::Kind;
 
@@ -15,16 +15,16 @@ pub struct Planes {
 }
 
 impl Planes {
-    /// Planes of looks of their own.
+    /// Planes of kinds of their own.
     pub fn random(rng: &mut Rng, form: Form, width: usize, height: usize) -> Planes {
-        Planes::with_looks(rng, form, (width, height), &LOOKS)
+        Planes::with_kinds(rng, form, (width, height), &PLANE_KINDS)
     }
 
-    /// Planes each of which has one of these looks.
-    pub fn with_looks(rng: &mut Rng, form: Form, (width, height): (usize, usize), looks: &[Look]) -> Planes {
+    /// Planes each of which has one of these kinds.
+    pub fn with_kinds(rng: &mut Rng, form: Form, (width, height): (usize, usize), kinds: &[PlaneKind]) -> Planes {
         let (chroma_width, chroma_height) = form.chroma_sides(width, height);
         let mut plane = |width, height| {
-            let look = *rng.pick(looks);
+            let look = *rng.pick(kinds);
             planes::samples(rng, look, width, height)
         };
         Planes {
@@ -41,7 +41,7 @@ impl Planes {
     /// The part of the body that each plane makes, packed by IronRDP if it is RLE.
     pub fn bodies(&self, form: Form, width: usize, height: usize) -> Vec<Vec<u8>> {
         let packed = |(plane, (width, height)): (&[u8], (usize, usize))| match form.rle {
-            true => original::pack(plane, width, height).expect("a whole plane with room"),
+            true => original::pack(plane, width, height).expect("a complete plane with room"),
             false => plane.to_vec(),
         };
         self.with_sides(form, width, height).map(packed).collect()

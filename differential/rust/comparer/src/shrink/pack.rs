@@ -4,7 +4,7 @@ use super::call::{lower_sides, with_lower_bytes, with_plain_destination, with_sh
 use super::lower;
 use super::plane::smaller_planes;
 use crate::case::Owned;
-use crate::demand::Model;
+use crate::prefix::Model;
 
 /// Of sides, source length, destination length, samples and the destination's content each lowers one and none that stands
 /// before it, so shrinking ends.

@@ -59,13 +59,13 @@ fn remade(case: &OwnedPicture, form: Form, (width, height): (usize, usize), body
 
 /// Forms that say less: raw for RLE, no alpha, no subsampling, lower definitions and levels.
 fn plainer_forms(form: Form) -> impl Iterator<Item = Form> {
-    let definitions = lower(usize::from(form.definition)).map(move |lower| Form { definition: lower as u8, ..form });
+    let definitions = lower(form.definition as usize).map(move |lower| Form { definition: lower as u32, ..form });
     let flags = [
         form.rle.then_some(Form { rle: false, ..form }),
         form.alpha.then_some(Form { alpha: false, ..form }),
         form.subsampled.then_some(Form { subsampled: false, ..form }),
     ];
-    let levels = lower(usize::from(form.level)).map(move |level| Form { level: level as u8, ..form });
+    let levels = lower(form.level as usize).map(move |level| Form { level: level as u32, ..form });
     definitions.chain(flags.into_iter().flatten()).chain(levels)
 }
 
@@ -209,7 +209,7 @@ pub fn smaller_sizes(case: &Sizes) -> impl Iterator<Item = Sizes> + '_ {
     let heights = lower_side(case.height).map(|height| Sizes { height, ..*case });
     let widths = lower_side(case.width).map(|width| Sizes { width, ..*case });
     let definitions =
-        lower(usize::from(case.definition)).map(|definition| Sizes { definition: definition as u8, ..*case });
+        lower(case.definition as usize).map(|definition| Sizes { definition: definition as u32, ..*case });
     let flags = [
         case.rle.then_some(Sizes { rle: false, ..*case }),
         case.subsampled.then_some(Sizes { subsampled: false, ..*case }),
