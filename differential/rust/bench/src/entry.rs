@@ -59,7 +59,7 @@ impl Entry {
         }
     }
 
-    /// What is handed over of a picture, or of its first plane.
+    /// The source of a call: a picture, or its first plane.
     pub fn source(self, planes: &Planes, side: usize) -> Vec<u8> {
         let [first, _, _] = &planes.colours;
         match self {

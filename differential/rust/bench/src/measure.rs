@@ -1,14 +1,14 @@
-//! IronRDP, the library and a plain copy of the output, in turn within each round.
+//! IronRDP, the library and a plain copy of the output, one after the other within each round.
 
 use crate::clock::nanoseconds;
 use crate::entry::{Buffers, Entry};
 use crate::pages::Kind;
 use std::hint::black_box;
 
-/// A copy of less is repeated up to so many bytes, or the clock would be measured.
+/// A copy of fewer bytes is repeated up to so many, or the clock would be measured.
 const MIN_COPIED: usize = 1 << 20;
 
-/// A source, IronRDP's answer to it, and the output that it comes to.
+/// A source, IronRDP's answer to it, and its output.
 struct Input {
     source: Vec<u8>,
     answer: i64,
@@ -27,8 +27,8 @@ impl Input {
 /// Who is measured.
 #[derive(Clone, Copy)]
 enum Who {
-    Rust,
-    Port,
+    IronRdp,
+    Library,
     Copy,
 }
 
@@ -38,8 +38,8 @@ const ORDER: [Who; 3] = [Who::IronRdp, Who::Library, Who::Copy];
 /// Nanoseconds a pixel.
 #[derive(Clone, Copy)]
 pub struct Times {
-    pub rust: f64,
-    pub port: f64,
+    pub ironrdp: f64,
+    pub library: f64,
     pub copy: f64,
 }
 
@@ -52,7 +52,7 @@ pub struct Job {
 }
 
 impl Job {
-    /// Pictures of this side that a sheet is cut into. Every output of the library has been compared once.
+    /// The pictures of this side of a sheet. Each output of the library is compared with IronRDP's once.
     pub fn new(entry: Entry, kind: Kind, sheet_side: usize, side: usize) -> Job {
         let mut buffers = entry.buffers(side);
         let pictures = kind.pictures(entry.form(), sheet_side, side).into_iter();
@@ -77,7 +77,7 @@ impl Job {
         bytes as f64 / self.pixels() as f64
     }
 
-    /// Nothing of an earlier output is left to be taken for the next one.
+    /// Removes the last output, so that the next one is not taken for it.
     fn clear(&mut self) {
         self.buffers.out.fill(0);
     }
@@ -94,7 +94,7 @@ impl Job {
                 *answer
             }
         };
-        assert_eq!(given, *answer, "all of it is done");
+        assert_eq!(given, *answer, "the answer is IronRDP's");
     }
 
     fn check_output(&self, at: usize) {
@@ -129,7 +129,7 @@ impl Job {
                 best[at] = self.time_of(ORDER[at]).min(best[at]);
             }
         }
-        let [rust, port, copy] = best;
-        Times { rust, port, copy }
+        let [ironrdp, library, copy] = best;
+        Times { ironrdp, library, copy }
     }
 }

@@ -6,7 +6,7 @@ use crate::rng::Rng;
 /// Widths around which a segment's counts change: 15 raw bytes, runs of 16, 32 and 47, and the longest side.
 pub const WIDTHS: [usize; 22] = [1, 2, 3, 4, 14, 15, 16, 17, 18, 30, 31, 32, 33, 46, 47, 48, 49, 62, 63, 64, 65, 95];
 
-/// What a plane kinds like.
+/// The kinds of planes that are made.
 #[derive(Clone, Copy, Debug)]
 pub enum PlaneKind {
     Noise,
@@ -26,10 +26,10 @@ pub const PLANE_KINDS: [PlaneKind; 6] = [
     PlaneKind::RowsAlike,
 ];
 
-/// Width times height samples of this look.
-pub fn samples(rng: &mut Rng, look: PlaneKind, width: usize, height: usize) -> Vec<u8> {
+/// Width times height samples of this kind.
+pub fn samples(rng: &mut Rng, plane_kind: PlaneKind, width: usize, height: usize) -> Vec<u8> {
     let count = width * height;
-    match look {
+    match plane_kind {
         PlaneKind::Noise => rng.bytes(count),
         PlaneKind::FewValues => {
             let values = rng.bytes(3);
@@ -113,7 +113,7 @@ pub fn sides(rng: &mut Rng) -> (usize, usize) {
     }
 }
 
-/// Sides of which one at least is refused.
+/// Sides of which at least one is refused.
 pub fn sides_outside(rng: &mut Rng) -> (usize, usize) {
     let (width, height) = sides(rng);
     let wrong = match rng.below(4) {

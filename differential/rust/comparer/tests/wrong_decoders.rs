@@ -31,7 +31,7 @@ fn a_right_decoder_has_no_difference() {
     SEARCH.finds_nothing(with::<Right>());
 }
 
-/// A decoder that does some steps otherwise, and the smallest input that shows it.
+/// A decoder that does some steps differently, and the smallest input that shows it.
 macro_rules! wrong {
     ($name:ident, $smallest:literal, { $($steps:tt)* }) => {
         #[test]

@@ -1,4 +1,4 @@
-//! The prefix theorem (demand 3) must find every one of these mistakes, by its own cases alone, and none in a right pair.
+//! The cases of the prefix theorem alone must find each of these mistakes, and none in a right pair.
 
 mod support;
 
@@ -29,12 +29,12 @@ fn right(slices: &Slices, width: usize, height: usize) -> i64 {
     unsafe { RIGHT_UNPACK(slices.src, slices.src_len, slices.dst, slices.dst_len, width, height) }
 }
 
-/// The samples that all whole segments in the source fill.
+/// The samples of all complete segments of the source.
 fn filled(slices: &Slices) -> usize {
     let source = slices.source();
     let fits = |&at: &usize| at + 1 + counts(source[at]).0 <= source.len();
-    let whole = segment_starts(source).into_iter().filter(fits);
-    whole.map(|at| counts(source[at])).map(|(raw, run)| raw + run).sum()
+    let complete = segment_starts(source).into_iter().filter(fits);
+    complete.map(|at| counts(source[at])).map(|(raw, run)| raw + run).sum()
 }
 
 fn undelta(code: u8) -> u8 {
@@ -58,12 +58,12 @@ impl<const MISTAKE: u8> Call for Unpacker<MISTAKE> {
         if answer < 0 {
             spoil_cut::<MISTAKE>(&mut slices, &before, width, answer)
         } else {
-            spoil_whole::<MISTAKE>(&mut slices, width, height, answer)
+            spoil_complete::<MISTAKE>(&mut slices, width, height, answer)
         }
     }
 }
 
-/// What is done wrong with a cut packing.
+/// What is done wrong with a truncated packing.
 fn spoil_cut<const MISTAKE: u8>(slices: &mut Slices, before: &[u8], width: usize, answer: i64) -> i64 {
     let filled = filled(slices);
     let next = filled / width * width;
@@ -86,7 +86,7 @@ fn spoil_cut<const MISTAKE: u8>(slices: &mut Slices, before: &[u8], width: usize
     answer
 }
 
-/// The raw bytes that are there of the segment that is not whole.
+/// The raw bytes of the incomplete segment, as far as there are any.
 fn put_half(slices: &mut Slices, from: usize, to: usize) {
     let source = slices.source().to_vec();
     let last = segment_starts(&source).pop().filter(|&at| at + 1 + counts(source[at]).0 > source.len());
@@ -95,8 +95,8 @@ fn put_half(slices: &mut Slices, from: usize, to: usize) {
     }
 }
 
-/// What is done wrong with a whole one.
-fn spoil_whole<const MISTAKE: u8>(slices: &mut Slices, width: usize, height: usize, answer: i64) -> i64 {
+/// What is done wrong with a complete packing.
+fn spoil_complete<const MISTAKE: u8>(slices: &mut Slices, width: usize, height: usize, answer: i64) -> i64 {
     match MISTAKE {
         INVENTED_COUNT => return (width * height) as i64,
         COUNT_IS_ALL => return slices.src_len as i64,
@@ -133,8 +133,8 @@ impl Call for UnpackComplements {
     }
 }
 
-/// A packer that writes every coded value as a segment of its own. Every unpacker gives back what it packs, and all that a
-/// cut holds.
+/// A packer that writes every coded value as a segment of its own. Every unpacker restores what it packs, and the complete
+/// segments of a prefix.
 struct PackSingly;
 
 impl Call for PackSingly {
@@ -244,7 +244,7 @@ fn the_first_row_copied_down() {
 }
 
 #[test]
-fn a_cut_packing_taken_for_whole() {
+fn a_truncated_packing_taken_for_complete() {
     is_found(exported::<Unpacker<CUT_TAKEN>>, "px 1 1 00 0 - EE");
 }
 

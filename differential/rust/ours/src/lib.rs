@@ -6,7 +6,7 @@ mod ffi;
 
 pub use ffi::*;
 
-/// Unpacking a plane, on slices wherever they lie.
+/// Unpacking a plane.
 pub fn unpack(src: &[u8], dst: &mut [u8], width: usize, height: usize) -> i64 {
     // SAFETY: both are valid during the call, and their lengths are right.
     unsafe { rdp6_decompress_8bpp_plane(src.as_ptr(), src.len(), dst.as_mut_ptr(), dst.len(), width, height) }

@@ -5,7 +5,7 @@ use comparer::packing::boundary::{literal, three_runs, under_a_row, BESIDE, LENG
 use comparer::planes::{self, segment_starts, PlaneKind, PLANE_KINDS, WIDTHS};
 use comparer::Rng;
 
-/// Every part in turn, each with numbers of its own, so that a change in one leaves the others as they are.
+/// All parts, each with random numbers of its own, so that a change in one leaves the others as they are.
 pub fn keep_all(stored: &mut Stored) {
     every_room(stored, &mut Rng::new(1));
     boundary_runs(stored, &mut Rng::new(2));
@@ -108,8 +108,8 @@ fn every_difference(stored: &mut Stored, rng: &mut Rng) {
 fn longer_sources(stored: &mut Stored, rng: &mut Rng) {
     for _ in 0..120 {
         let (width, height) = (rng.within(1, 40), rng.within(1, 3));
-        let look = *rng.pick(&[PlaneKind::FewValues, PlaneKind::Runs, PlaneKind::RowsAlike]);
-        let mut samples = planes::samples(rng, look, width, height);
+        let plane_kind = *rng.pick(&[PlaneKind::FewValues, PlaneKind::Runs, PlaneKind::RowsAlike]);
+        let mut samples = planes::samples(rng, plane_kind, width, height);
         let room = packed(&samples, width, height).len() + *rng.pick(&[0, 1, 9]);
         let last = samples[samples.len() - 1];
         let more = rng.within(1, 50);
@@ -118,12 +118,12 @@ fn longer_sources(stored: &mut Stored, rng: &mut Rng) {
     }
 }
 
-/// Planes of every look at all the widths.
+/// Planes of every kind at all the widths.
 fn every_kind(stored: &mut Stored, rng: &mut Rng) {
     for width in WIDTHS {
-        for look in PLANE_KINDS {
+        for plane_kind in PLANE_KINDS {
             let height = rng.within(1, if width > 20 { 2 } else { 4 });
-            let samples = planes::samples(rng, look, width, height);
+            let samples = planes::samples(rng, plane_kind, width, height);
             keep_with_and_without_room(stored, rng, width, height, &samples);
         }
     }

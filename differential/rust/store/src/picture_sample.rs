@@ -1,4 +1,4 @@
-//! Which pictures are stored: small ones of all forms, whole, cut and damaged.
+//! Which pictures are stored: small ones of all forms, complete, truncated and damaged.
 
 use crate::pictures::Pictures;
 use crate::BEFORE;
@@ -8,7 +8,7 @@ use comparer::picture::{Form, OwnedPicture, Planes};
 use comparer::planes::{self, segment_starts, Making, PlaneKind, PLANE_KINDS, WIDTHS};
 use comparer::Rng;
 
-/// Every part in turn, each with numbers of its own, so that a change in one leaves the others as they are.
+/// All parts, each with random numbers of its own, so that a change in one leaves the others as they are.
 pub fn keep_all(stored: &mut Pictures) {
     examples(stored);
     every_form(stored, &mut Rng::new(1));
@@ -22,7 +22,7 @@ pub fn keep_all(stored: &mut Pictures) {
     refused_planes(stored, &mut Rng::new(9));
 }
 
-/// Document 01's examples and the like, as far as they are inside the domain, on slices as all cases here have them.
+/// The examples of FORMAT 10 and the like, as far as they are inside the domain, with buffers that hold `EE`.
 fn examples(stored: &mut Pictures) {
     let cases = EXAMPLES.iter().map(|example| OwnedPicture::parse(example.0).expect("the table's own text"));
     for mut case in cases.filter(|case| case.view().refused_outside().is_none()) {
@@ -88,21 +88,21 @@ fn body_lengths(stored: &mut Pictures, rng: &mut Rng) {
     for (width, height) in [(1, 1), (3, 2), (2, 5), (48, 1)] {
         for form in forms(rng) {
             let mut body = Planes::with_kinds(rng, form, (width, height), &[PlaneKind::Runs]).body(form, width, height);
-            let (least, whole) = (form.min_body(width, height), body.len());
+            let (min, complete) = (form.min_body(width, height), body.len());
             body.extend(rng.bytes(9));
-            for end in [0, least - 1, least, whole - 1, whole, whole + 1, whole + 9] {
+            for end in [0, min - 1, min, complete - 1, complete, complete + 1, complete + 9] {
                 stored.keep_somehow(form, (width, height), &body[..end]);
             }
         }
     }
 }
 
-/// RLE bodies cut at every place.
+/// Every prefix of some RLE bodies.
 fn truncated_bodies(stored: &mut Pictures, rng: &mut Rng) {
     for (width, height) in [(1, 1), (2, 2), (3, 2), (5, 1), (17, 1)] {
         for form in forms(rng).into_iter().filter(|form| form.rle) {
-            let look = *rng.pick(&[PlaneKind::FewValues, PlaneKind::Noise]);
-            let body = Planes::with_kinds(rng, form, (width, height), &[look]).body(form, width, height);
+            let plane_kind = *rng.pick(&[PlaneKind::FewValues, PlaneKind::Noise]);
+            let body = Planes::with_kinds(rng, form, (width, height), &[plane_kind]).body(form, width, height);
             for end in 0..=body.len() {
                 stored.keep_somehow(form, (width, height), &body[..end]);
             }
@@ -151,7 +151,7 @@ fn wider(stored: &mut Pictures, rng: &mut Rng) {
     }
 }
 
-/// Each plane in turn refused: by control byte 0, by a segment that overruns its row, at its start and at its last row's.
+/// One plane at a time refused: by control byte 0, by a segment that overruns its row, at its start and at its last row's.
 fn refused_planes(stored: &mut Pictures, rng: &mut Rng) {
     let (width, height) = (4, 2);
     for form in forms(rng).into_iter().filter(|form| form.rle) {

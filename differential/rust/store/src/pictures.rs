@@ -39,7 +39,7 @@ impl Pictures {
         self.keep(form, sides, body, (more[0], more[1]));
     }
 
-    /// Asks IronRDP and keeps its answer. Bytes of the work area beyond the planes, which IronRDP would cut off, are those that
+    /// Asks IronRDP and keeps its answer. Bytes of the work area beyond the planes, which IronRDP would drop, are those that
     /// were there; so are bytes of the image beyond what it makes.
     pub fn keep_case(&mut self, case: &OwnedPicture) {
         assert_eq!(case.view().refused_outside(), None, "a case outside the domain");

@@ -4,7 +4,7 @@ use crate::Stored;
 use comparer::planes::{self, segment_starts, Making, PlaneKind, PLANE_KINDS, WIDTHS};
 use comparer::Rng;
 
-/// Every part in turn, each with numbers of its own, so that a change in one leaves the others as they are.
+/// All parts, each with random numbers of its own, so that a change in one leaves the others as they are.
 pub fn keep_all(stored: &mut Stored) {
     short_bodies(stored, &mut Rng::new(1));
     every_control_byte(stored, &mut Rng::new(2));
@@ -21,8 +21,8 @@ fn room(rng: &mut Rng, width: usize, height: usize) -> usize {
     width * height + *rng.pick(&[0, 0, 1, 2, 9])
 }
 
-fn packed(rng: &mut Rng, look: PlaneKind, width: usize, height: usize) -> Vec<u8> {
-    let plane = planes::samples(rng, look, width, height);
+fn packed(rng: &mut Rng, plane_kind: PlaneKind, width: usize, height: usize) -> Vec<u8> {
+    let plane = planes::samples(rng, plane_kind, width, height);
     original::pack(&plane, width, height).expect("a complete plane with room")
 }
 
@@ -79,11 +79,11 @@ fn refusals_at_every_place(stored: &mut Stored, rng: &mut Rng) {
     }
 }
 
-/// Packings of small planes, cut at every length.
+/// Prefixes of packings of small planes, every one or some.
 fn truncated_packings(stored: &mut Stored, rng: &mut Rng) {
     for (width, height) in [(1, 4), (4, 3), (15, 2), (16, 2), (17, 2), (32, 2), (47, 2), (48, 2), (64, 2), (65, 1)] {
-        for look in PLANE_KINDS {
-            let body = packed(rng, look, width, height);
+        for plane_kind in PLANE_KINDS {
+            let body = packed(rng, plane_kind, width, height);
             for len in 0..=body.len() {
                 if body.len() < 60 || rng.once_in(3) {
                     stored.keep(width, height, room(rng, width, height), &body[..len]);
@@ -93,12 +93,12 @@ fn truncated_packings(stored: &mut Stored, rng: &mut Rng) {
     }
 }
 
-/// Packings of every look at all the widths, whole, and with bytes following.
+/// Packings of planes of every kind at all the widths, complete and with bytes following.
 fn complete_and_followed(stored: &mut Stored, rng: &mut Rng) {
     for width in WIDTHS {
-        for look in PLANE_KINDS {
+        for plane_kind in PLANE_KINDS {
             let height = rng.within(1, 4);
-            let mut body = packed(rng, look, width, height);
+            let mut body = packed(rng, plane_kind, width, height);
             stored.keep(width, height, room(rng, width, height), &body);
             let more = rng.within(1, 9);
             body.extend(rng.bytes(more));
@@ -111,8 +111,8 @@ fn complete_and_followed(stored: &mut Stored, rng: &mut Rng) {
 fn damaged_packings(stored: &mut Stored, rng: &mut Rng) {
     for _ in 0..500 {
         let (width, height) = (*rng.pick(&WIDTHS), rng.within(1, 4));
-        let look = *rng.pick(&PLANE_KINDS);
-        let mut body = packed(rng, look, width, height);
+        let plane_kind = *rng.pick(&PLANE_KINDS);
+        let mut body = packed(rng, plane_kind, width, height);
         for _ in 0..rng.within(1, 3) {
             let at = rng.below(body.len());
             body[at] = rng.byte();

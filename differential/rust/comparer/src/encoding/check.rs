@@ -1,4 +1,4 @@
-//! Compares one picture that is packed with what must become of it.
+//! Compares the packing of one picture.
 
 use crate::check::{answer_text, After, Comparer, Difference, Outcome};
 use crate::encoding::{round_trip, Encoding, OwnedEncoding, Sources};
@@ -7,7 +7,7 @@ use crate::input::{Input, View};
 use crate::tally::{Kind, Reference};
 use original::{Answer, Definition, Header};
 
-/// `rdp6_encode_channels_stream` as a library has it: R, G, B, destination, RLE, width, height; bytes written, or minus the
+/// `rdp6_encode_channels_stream` as C declares it: R, G, B, destination, RLE, width, height; bytes written, or minus the
 /// refusal's number.
 pub type EncodeChannels = unsafe extern "C" fn(
     *const u8,
@@ -43,7 +43,7 @@ pub type EncodeChannelsAlpha = unsafe extern "C" fn(
 /// The same from pixels.
 pub type EncodeBitmap = unsafe extern "C" fn(*const u8, usize, *mut u8, usize, bool, usize, usize) -> i64;
 
-/// What a library has for packing pictures.
+/// The functions of a library that pack pictures.
 #[derive(Clone, Copy)]
 pub struct Encoders {
     pub channels: EncodeChannels,
@@ -64,7 +64,7 @@ impl Packed {
         &self.wanted[1..]
     }
 
-    /// What the destination must hold, as the case that was asked last has it.
+    /// What the destination must hold after the last case that was asked.
     pub(crate) fn wanted_after(&self) -> After {
         destination(self.wanted())
     }
@@ -84,7 +84,7 @@ fn destination(after: &[u8]) -> After {
     After(vec![("destination", after.to_vec())])
 }
 
-/// The record that document 01 has sent: RLE as asked, ARGB, and alpha false whatever the planes are.
+/// The header record of FORMAT 7.5: RLE as asked, ARGB, and alpha false whatever the planes are.
 pub fn record(rle: bool) -> Header {
     Header { rle, alpha: false, definition: Definition::Argb }
 }
@@ -95,7 +95,7 @@ impl Comparer {
         self.compare_encoding_at(kind, case, &SIDES)
     }
 
-    /// The same with the slices at these sides of their pages only, where both would take too long.
+    /// The same with the buffers at these sides of their pages only, where both would take too long.
     pub fn compare_encoding_at(&mut self, kind: Kind, case: Encoding<&[u8]>, sides: &[Side]) -> Outcome {
         let wanted = self.ask_encoding(case)?;
         self.tally.count(kind, Reference::ironrdp_if(case.is_inside()), &wanted);
@@ -107,8 +107,8 @@ impl Comparer {
         self.compare_encoder(case.view(), wanted, &SIDES)
     }
 
-    /// What must be answered; `packed.wanted` gets what the destination must hold. Where there are samples too many document 01
-    /// says which are used, and IronRDP what they make. IronRDP itself is compared with the record that document 01 has sent.
+    /// The answer that is required; `packed.wanted` gets what the destination must hold. Where a source is longer than the picture,
+    /// IronRDP is asked with the samples that are used. The header that IronRDP writes is compared with `record`.
     pub(crate) fn ask_encoding(&mut self, case: Encoding<&[u8]>) -> Result<Answer, Box<Difference>> {
         let wanted = &mut self.packed.wanted;
         wanted.clear();
@@ -142,7 +142,7 @@ impl Comparer {
         }
     }
 
-    /// What the library wrote must be unpacked to what went in.
+    /// What the library wrote must be unpacked to the samples that were packed.
     fn compare_round_trip(&mut self, case: Encoding<&[u8]>, count: usize) -> Outcome {
         self.tally.unpacked_again += 1;
         let Some(wrong) = round_trip::wrong(case, &self.packed.got[..count]) else {
@@ -184,7 +184,7 @@ impl Comparer {
             Buffer::written("destination", before, &mut self.packed.got),
         ];
         let lens = [r, g, b].map(<[u8]>::len);
-        // SAFETY: all are passed for this call. That it keeps to them is what is tested.
+        // SAFETY: all buffers are valid during the call. That it stays inside them is tested.
         self.memory.call(View::Encoding(case), side, buffers, |[r, g, b, dst]| unsafe {
             encode(r, lens[0], g, lens[1], b, lens[2], dst, before.len(), rle, width, height)
         })
@@ -207,7 +207,7 @@ impl Comparer {
             Buffer::written("destination", before, &mut self.packed.got),
         ];
         let lens = [r, g, b, a].map(<[u8]>::len);
-        // SAFETY: all are passed for this call. That it keeps to them is what is tested.
+        // SAFETY: all buffers are valid during the call. That it stays inside them is tested.
         self.memory.call(View::Encoding(case), side, buffers, |[r, g, b, a, dst]| unsafe {
             encode(r, lens[0], g, lens[1], b, lens[2], a, lens[3], dst, before.len(), rle, width, height)
         })
@@ -219,7 +219,7 @@ impl Comparer {
         let encode = if alpha { encoders.bitmap_alpha } else { encoders.bitmap };
         let buffers = [Buffer::read("pixels", pixels), Buffer::written("destination", before, &mut self.packed.got)];
         let len = pixels.len();
-        // SAFETY: both are passed for this call. That it keeps to them is what is tested.
+        // SAFETY: both buffers are valid during the call. That it stays inside them is tested.
         self.memory.call(View::Encoding(case), side, buffers, |[pixels, dst]| unsafe {
             encode(pixels, len, dst, before.len(), rle, width, height)
         })

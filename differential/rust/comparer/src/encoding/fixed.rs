@@ -93,12 +93,14 @@ fn telling_pictures(comparer: &mut Comparer, earlier: &mut Earlier) -> Outcome {
     Ok(())
 }
 
-/// Every look at sides around which a segment's counts change: rooms at the end of each segment of each plane.
+/// Planes of every kind at sides around which a segment's counts change: rooms at the end of each segment of each plane.
 fn kinds(comparer: &mut Comparer, earlier: &mut Earlier) -> Outcome {
     let rng = &mut Rng::new(35);
     for sides in [(4, 2), (5, 5), (15, 1), (16, 2), (17, 3), (32, 1), (33, 2), (47, 1), (48, 2), (64, 1), (65, 3)] {
-        for (look, alpha) in PLANE_KINDS.into_iter().flat_map(|look| ALPHAS.map(|alpha| (look, alpha))) {
-            let planes = Planes::with_kinds(rng, given::form(alpha), sides, &[look]);
+        for (plane_kind, alpha) in
+            PLANE_KINDS.into_iter().flat_map(|plane_kind| ALPHAS.map(|alpha| (plane_kind, alpha)))
+        {
+            let planes = Planes::with_kinds(rng, given::form(alpha), sides, &[plane_kind]);
             in_all_rooms(comparer, earlier, Kind::EncodingRooms, sides, &planes, SEGMENTS)?;
         }
     }
@@ -122,7 +124,7 @@ fn long_sides(comparer: &mut Comparer, earlier: &mut Earlier) -> Outcome {
     Ok(())
 }
 
-/// The largest picture that there is, raw, from pixels: with just the room that it needs, and with one byte less. It is passed at
+/// The largest picture, raw, from pixels: with just the room that it needs, and with one byte less. It is passed at
 /// one side of its pages each time.
 fn largest(comparer: &mut Comparer) -> Outcome {
     let (width, height) = (MAX_SIDE, MAX_SIDE);

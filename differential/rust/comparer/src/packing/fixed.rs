@@ -85,7 +85,7 @@ fn with_other_sources(
     Ok(())
 }
 
-/// Sides of which one at least is refused, or that ask for more than any source: also those whose product does not fit a
+/// Sides of which at least one is refused, or that need more than any source has: also those whose product does not fit a
 /// word, or wraps to a small number.
 fn refused_sides(comparer: &mut Comparer, earlier: &mut Earlier) -> Outcome {
     let source = Rng::new(11).bytes(5000);
@@ -102,15 +102,15 @@ fn refused_sides(comparer: &mut Comparer, earlier: &mut Earlier) -> Outcome {
     Ok(())
 }
 
-/// Rows and columns of 8,191 and 8,192, of one value and of every look.
+/// Rows and columns of 8,191 and 8,192, of one value and of every kind.
 fn long_sides(comparer: &mut Comparer, earlier: &mut Earlier) -> Outcome {
     let rng = &mut Rng::new(12);
     for side in [MAX_SIDE - 1, MAX_SIDE] {
         for sides in [(side, 1), (side, 2), (1, side)] {
             let flat = vec![9; sides.0 * sides.1];
             in_all_rooms(comparer, earlier, Kind::LongSides, sides, &flat)?;
-            for look in PLANE_KINDS {
-                let samples = planes::samples(rng, look, sides.0, sides.1);
+            for plane_kind in PLANE_KINDS {
+                let samples = planes::samples(rng, plane_kind, sides.0, sides.1);
                 in_all_rooms(comparer, earlier, Kind::LongSides, sides, &samples)?;
             }
         }
@@ -119,7 +119,7 @@ fn long_sides(comparer: &mut Comparer, earlier: &mut Earlier) -> Outcome {
     in_all_rooms(comparer, earlier, Kind::LongSides, (3, MAX_SIDE), &samples)
 }
 
-/// The largest plane that there is: with just the room that it needs, and with one byte less. It is passed at one side of its
+/// The largest plane: with just the room that it needs, and with one byte less. It is passed at one side of its
 /// pages each time.
 fn largest_plane(comparer: &mut Comparer, earlier: &mut Earlier) -> Outcome {
     let (width, height) = (MAX_SIDE, MAX_SIDE);

@@ -1,4 +1,4 @@
-//! Compares one picture with what must become of it.
+//! Compares the unpacking of one picture.
 
 use crate::check::{answer_text, After, Comparer, Outcome};
 use crate::guarded::{Buffer, Side, SIDES};
@@ -8,7 +8,7 @@ use crate::tally::{Kind, Reference};
 use crate::Difference;
 use original::Answer;
 
-/// A picture decoder as a library has it: RLE, alpha, definition, loss level, subsampling; body, work area, image; width,
+/// A picture decoder as C declares it: RLE, alpha, definition, loss level, subsampling; body, work area, image; width,
 /// height; bytes of the image, or minus the refusal's number.
 pub type Decode = unsafe extern "C" fn(
     bool,
@@ -32,7 +32,7 @@ pub type WorkSize = unsafe extern "C" fn(bool, u32, bool, usize, usize) -> usize
 /// The length of the image: width, height.
 pub type ImageSize = unsafe extern "C" fn(usize, usize) -> usize;
 
-/// What a library has for pictures.
+/// The functions of a library that unpack pictures.
 #[derive(Clone, Copy)]
 pub struct Pictures {
     pub decode: Decode,
@@ -40,7 +40,7 @@ pub struct Pictures {
     pub image_size: ImageSize,
 }
 
-/// The two slices that a decoder writes to.
+/// The two buffers that a decoder writes.
 #[derive(Default)]
 struct Written {
     work: Vec<u8>,
@@ -58,18 +58,18 @@ impl Written {
 pub(crate) struct Afters {
     wanted: Written,
     got: Written,
-    /// The image that IronRDP makes.
+    /// The image of IronRDP.
     made: Vec<u8>,
 }
 
 impl Afters {
-    /// What the two must hold, as the case that was asked last has it.
+    /// What the two must hold after the last case that was asked.
     pub(crate) fn wanted(&self) -> After {
         self.wanted.after()
     }
 
-    /// Asks IronRDP. It gets the whole work area and may give back a shorter one, behind which nothing has changed; its image
-    /// is what it appends, and the rest of ours is as it was.
+    /// Asks IronRDP. It gets the entire work area and may return a shorter one: the library must leave the bytes behind that
+    /// unchanged. Its image is what it appends: the library must leave the bytes behind that unchanged too.
     fn ask_ironrdp(&mut self, case: Picture<'_>) -> Answer {
         self.made.clear();
         let answer = case.by_ironrdp(&mut self.wanted.work, &mut self.made).expect("a form that IronRDP has");
@@ -101,7 +101,7 @@ impl Comparer {
         self.compare_picture_at(kind, case, &SIDES)
     }
 
-    /// The same with the slices at these sides of their pages only, where both would take too long.
+    /// The same with the buffers at these sides of their pages only, where both would take too long.
     pub fn compare_picture_at(&mut self, kind: Kind, case: Picture<'_>, sides: &[Side]) -> Outcome {
         let reference = Reference::ironrdp_if(case.refused_outside().is_none());
         let wanted = self.ask_picture(case);
@@ -114,7 +114,7 @@ impl Comparer {
         self.compare_decoder(case.view(), wanted, &SIDES)
     }
 
-    /// What must be answered; `afters.wanted` gets what the slices must hold.
+    /// The answer that is required; `afters.wanted` gets what the buffers must hold.
     pub(crate) fn ask_picture(&mut self, case: Picture<'_>) -> Answer {
         let wanted = &mut self.afters.wanted;
         wanted.work.clear();
@@ -156,7 +156,7 @@ impl Comparer {
             Buffer::written("image", image, &mut self.afters.got.image),
         ];
         let [body_len, work_len, image_len] = [body.len(), work.len(), image.len()];
-        // SAFETY: all three are passed for this call. That it keeps to them is what is tested.
+        // SAFETY: all three buffers are valid during the call. That it stays inside them is tested.
         self.memory.call(View::Picture(case), side, buffers, |[body, work, image]| unsafe {
             decode(
                 form.rle,
@@ -176,7 +176,7 @@ impl Comparer {
         })
     }
 
-    /// Compares what both sizes are said to be, and counts it.
+    /// Compares both sizes, and counts the case.
     pub fn compare_sizes(&mut self, kind: Kind, case: Sizes) -> Outcome {
         self.tally.count(kind, Reference::Format, &Answer::Done(case.work()));
         self.check_sizes(&case)

@@ -39,7 +39,7 @@ impl Colours {
     }
 }
 
-/// Each level with all colours, with alpha and without in turn, and the other way round with every 17th Cg. The slices lie at
+/// Each level with all colours, with alpha and without by turns, and the other way round with every 17th Cg. The buffers lie at
 /// one side of their pages each time.
 pub fn run(comparer: &mut Comparer) -> Outcome {
     let (all, some) = (Colours::new(4096, 1), Colours::new(1024, 17));

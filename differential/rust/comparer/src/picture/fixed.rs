@@ -1,4 +1,4 @@
-//! The part that is the same in every run: refusals, all forms at small sides, cut and damaged bodies, all colours, the longest
+//! The part that is the same in every run: refusals, all forms at small sides, truncated and damaged bodies, all colours, the longest
 //! sides.
 
 use crate::case::MAX_SIDE;
@@ -68,13 +68,13 @@ fn all_widths(comparer: &mut Comparer, befores: &mut Befores) -> Outcome {
     Ok(())
 }
 
-/// Small RLE pictures: every cut, every byte changed.
+/// Small RLE pictures: every prefix, every byte changed.
 fn truncated_and_damaged(comparer: &mut Comparer, befores: &mut Befores) -> Outcome {
     let rng = &mut Rng::new(27);
     for (width, height) in [(1, 1), (2, 1), (1, 2), (2, 2), (3, 2), (5, 3), (9, 4), (17, 2), (48, 1)] {
         for form in few_forms().filter(|form| form.rle) {
-            for look in [PlaneKind::Noise, PlaneKind::FewValues, PlaneKind::Runs] {
-                let body = Planes::with_kinds(rng, form, (width, height), &[look]).body(form, width, height);
+            for plane_kind in [PlaneKind::Noise, PlaneKind::FewValues, PlaneKind::Runs] {
+                let body = Planes::with_kinds(rng, form, (width, height), &[plane_kind]).body(form, width, height);
                 let sent = Sent { width, height, form, body: &body };
                 every_prefix(comparer, befores, sent)?;
                 every_damage(comparer, befores, rng, sent)?;
@@ -86,13 +86,13 @@ fn truncated_and_damaged(comparer: &mut Comparer, befores: &mut Befores) -> Outc
 
 fn every_prefix(comparer: &mut Comparer, befores: &mut Befores, sent: Sent<'_>) -> Outcome {
     for end in 0..=sent.body.len() {
-        let cut = sent.with_body(&sent.body[..end]);
-        befores.compare_longer(comparer, Kind::PictureTruncated, cut, (end % 3, end % 2))?;
+        let prefix = sent.with_body(&sent.body[..end]);
+        befores.compare_longer(comparer, Kind::PictureTruncated, prefix, (end % 3, end % 2))?;
     }
     Ok(())
 }
 
-/// Each byte in turn changed to all other values, or to some.
+/// One byte at a time changed to all other values, or to some.
 fn every_damage(comparer: &mut Comparer, befores: &mut Befores, rng: &mut Rng, sent: Sent<'_>) -> Outcome {
     let mut body = sent.body.to_vec();
     for at in 0..body.len() {
@@ -112,7 +112,7 @@ fn every_damage(comparer: &mut Comparer, befores: &mut Befores, rng: &mut Rng, s
     Ok(())
 }
 
-/// Rows and columns of 8,191 and 8,192: whole, the body cut by one byte, and each slice short by one.
+/// Rows and columns of 8,191 and 8,192: complete, the body one byte short, and each buffer one byte short.
 fn long_sides(comparer: &mut Comparer, befores: &mut Befores) -> Outcome {
     let rng = &mut Rng::new(28);
     for side in [MAX_SIDE - 1, MAX_SIDE] {
@@ -132,7 +132,7 @@ fn long_sides(comparer: &mut Comparer, befores: &mut Befores) -> Outcome {
     Ok(())
 }
 
-/// The largest pictures that there are: a raw one with alpha and smaller chroma planes, a flat one in RLE. The slices lie at one
+/// The largest pictures: a raw one with alpha and smaller chroma planes, a flat one in RLE. The slices lie at one
 /// side of their pages each time.
 fn largest(comparer: &mut Comparer) -> Outcome {
     let (width, height) = (MAX_SIDE, MAX_SIDE);

@@ -8,7 +8,7 @@ use crate::planes::{self, Making};
 use crate::rng::Rng;
 use crate::tally::Kind;
 
-/// RLE bodies up to this length are cut at every place, others at some.
+/// Of RLE bodies up to this length every prefix is unpacked, of others some.
 const EVERY_LENGTH: usize = 60;
 
 /// Random cases from one seed.
@@ -56,7 +56,7 @@ impl Random {
         self.befores.compare_longer(comparer, kind, sent, more)
     }
 
-    /// A picture that IronRDP packs: whole, with bytes following, cut, damaged, in slices of other lengths.
+    /// A picture that IronRDP packs: complete, with bytes following, truncated, damaged, in buffers of other lengths.
     fn picture(&mut self, comparer: &mut Comparer) -> Outcome {
         let (width, height) = planes::sides(&mut self.rng);
         let form = self.form();
@@ -67,13 +67,13 @@ impl Random {
         let more = self.rng.within(1, 40);
         let following = [&body[..], &self.rng.bytes(more)].concat();
         self.compare(comparer, Kind::RandomFollowing, sent.with_body(&following))?;
-        self.cut(comparer, sent)?;
+        self.truncated(comparer, sent)?;
         self.damaged(comparer, sent)?;
         self.other_lengths(comparer, sent)
     }
 
     /// The first bytes of a body.
-    fn cut(&mut self, comparer: &mut Comparer, sent: Sent<'_>) -> Outcome {
+    fn truncated(&mut self, comparer: &mut Comparer, sent: Sent<'_>) -> Outcome {
         let len = sent.body.len();
         if sent.form.rle && len <= EVERY_LENGTH {
             for end in 0..len {
@@ -107,7 +107,7 @@ impl Random {
         Ok(())
     }
 
-    /// The body whole or cut, in slices that are short by one, or by more, or long enough.
+    /// The body complete or truncated, in buffers that are short by one, or by more, or long enough.
     fn other_lengths(&mut self, comparer: &mut Comparer, sent: Sent<'_>) -> Outcome {
         let needs = sent.needs();
         for _ in 0..6 {
@@ -126,7 +126,7 @@ impl Random {
         }
     }
 
-    /// RLE planes made segment by segment, mostly right; also cut.
+    /// RLE planes made segment by segment, mostly right; also truncated.
     fn made(&mut self, comparer: &mut Comparer) -> Outcome {
         let (width, height) = planes::sides(&mut self.rng);
         let form = Form { rle: true, ..self.form() };
@@ -159,7 +159,7 @@ impl Random {
         Ok(())
     }
 
-    /// Sides of which one at least is refused; or levels and definitions that are.
+    /// Sides of which at least one is refused; or levels and definitions that are.
     fn outside(&mut self, comparer: &mut Comparer) -> Outcome {
         for _ in 0..8 {
             let (len, room) = (self.rng.within(0, 40), (self.rng.within(0, 100), self.rng.within(0, 100)));

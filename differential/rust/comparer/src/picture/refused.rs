@@ -33,7 +33,7 @@ pub fn few_forms() -> impl Iterator<Item = Form> {
     })
 }
 
-/// Sides of which one at least is refused, or that need more than any buffer has: also those whose product does not fit a word,
+/// Sides of which at least one is refused, or that need more than any buffer has: also those whose product does not fit a word,
 /// or wraps to a small number.
 fn table_of_sides(comparer: &mut Comparer, befores: &mut Befores) -> Outcome {
     const BODIES: [&[u8]; 4] = [&[], &[0; 8], &[0x10, 5, 0x10, 6, 0x10, 7, 0x10, 8], &[0xF2; 600]];

@@ -59,8 +59,8 @@ fn long_sides(comparer: &mut Comparer, earlier: &mut Earlier) -> Outcome {
     let rng = &mut Rng::new(13);
     for side in [MAX_SIDE - 1, MAX_SIDE] {
         for (width, height) in [(side, 1), (side, 2), (1, side)] {
-            for look in PLANE_KINDS {
-                let samples = planes::samples(rng, look, width, height);
+            for plane_kind in PLANE_KINDS {
+                let samples = planes::samples(rng, plane_kind, width, height);
                 at_all_lengths(comparer, earlier, Kind::PrefixLong, &Plane::new(width, height, &samples))?;
             }
         }

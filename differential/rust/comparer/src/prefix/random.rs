@@ -23,8 +23,8 @@ impl Random {
     /// One plane, packed by both. Then both unpack many of its prefixes, and the complete packing with bytes following.
     pub fn round(&mut self, comparer: &mut Comparer) -> Outcome {
         let (width, height) = planes::sides(&mut self.rng);
-        let look = *self.rng.pick(&PLANE_KINDS);
-        let mut samples = planes::samples(&mut self.rng, look, width, height);
+        let plane_kind = *self.rng.pick(&PLANE_KINDS);
+        let mut samples = planes::samples(&mut self.rng, plane_kind, width, height);
         if self.rng.once_in(4) {
             let more = self.rng.within(1, 40);
             samples.extend(self.rng.bytes(more));

@@ -28,9 +28,9 @@ fn packed_len(case: &Owned) -> Option<usize> {
 fn resized(case: &Owned, width: usize, height: usize, source: Vec<u8>) -> impl Iterator<Item = Owned> {
     let kept = Owned { operation: case.operation, width, height, source, before: case.before.clone() };
     let spared = packed_len(case).zip(packed_len(&kept)).map_or(0, |(long, short)| long.saturating_sub(short));
-    let mut cut = kept.clone();
-    cut.before.truncate(kept.before.len().saturating_sub(spared));
-    [cut, kept].into_iter().take(1 + usize::from(spared > 0))
+    let mut shorter = kept.clone();
+    shorter.before.truncate(kept.before.len().saturating_sub(spared));
+    [shorter, kept].into_iter().take(1 + usize::from(spared > 0))
 }
 
 /// Lower heights and widths for the same source.

@@ -6,7 +6,7 @@ use crate::picture::{Form, OwnedPicture, Planes, Sizes};
 use crate::planes::segment_starts;
 use std::ops::Range;
 
-/// Longer bodies lose rows and columns before anything else is tried: every look at them takes long.
+/// Longer bodies lose rows and columns before anything else is tried: comparing them takes long.
 const LONG: usize = 1 << 16;
 /// Of bodies up to this length segments are left out.
 const SHORT: usize = 64;
@@ -28,7 +28,7 @@ pub fn smaller(case: &OwnedPicture) -> impl Iterator<Item = OwnedPicture> + '_ {
         .chain(with_plain_slices(case))
 }
 
-/// The lengths that a case needs, as far as that can be said.
+/// The minimum sizes of the work area and the image, or the largest number.
 fn needs(form: Form, width: usize, height: usize) -> (usize, usize) {
     let (chroma_width, chroma_height) = form.chroma_sides(width, height);
     let chroma = chroma_width.saturating_mul(chroma_height).saturating_mul(2);
@@ -57,7 +57,7 @@ fn remade(case: &OwnedPicture, form: Form, (width, height): (usize, usize), body
     OwnedPicture { width, height, form, body, work, image }
 }
 
-/// Forms that say less: raw for RLE, no alpha, no subsampling, lower definitions and levels.
+/// Simpler forms: raw for RLE, no alpha, no subsampling, lower definitions and levels.
 fn plainer_forms(form: Form) -> impl Iterator<Item = Form> {
     let definitions = lower(form.definition as usize).map(move |lower| Form { definition: lower as u32, ..form });
     let flags = [
@@ -85,7 +85,7 @@ fn fitted(planes: &Planes, case: &OwnedPicture, form: Form) -> Planes {
     fitted
 }
 
-/// A plainer form, for the planes of a body that is whole, or for the body as it is.
+/// A plainer form, for the planes of a complete body, or for the body as it is.
 fn with_plainer_form(case: &OwnedPicture) -> impl Iterator<Item = OwnedPicture> + '_ {
     let planes = Planes::of(case);
     let sides = (case.width, case.height);
@@ -107,7 +107,7 @@ fn with_lower_sides(case: &OwnedPicture) -> impl Iterator<Item = OwnedPicture> +
     heights.chain(widths).map(|sides| remade(case, case.form, sides, case.body.clone()))
 }
 
-/// Rows or columns left out of every plane of a body that is whole.
+/// Rows or columns left out of every plane of a complete body.
 fn with_smaller_planes(case: &OwnedPicture) -> impl Iterator<Item = OwnedPicture> + '_ {
     let found = Planes::of(case);
     let (rows, columns) = if found.is_some() { (case.height, case.width) } else { (0, 0) };
@@ -149,7 +149,7 @@ fn without(plane: &[u8], width: usize, rows: &Range<usize>, columns: &Range<usiz
     kept.flat_map(|(_, row)| [&row[..columns.start], &row[columns.end..]].concat()).collect()
 }
 
-/// One row or column fewer, and one or two neighbouring segments of an RLE body: a body that is not whole has no planes to
+/// One row or column fewer, and one or two neighbouring segments of an RLE body: an incomplete body has no planes to
 /// take it from.
 fn with_segments_left_out(case: &OwnedPicture) -> impl Iterator<Item = OwnedPicture> + '_ {
     let short = case.form.rle && case.body.len() <= SHORT;

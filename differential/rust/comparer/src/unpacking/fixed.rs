@@ -87,7 +87,7 @@ fn destination_lengths(comparer: &mut Comparer, earlier: &mut Earlier) -> Outcom
     Ok(())
 }
 
-/// Sides of which one at least is refused, or that ask for more than any destination: also those whose product does not
+/// Sides of which at least one is refused, or that need more than any destination has: also those whose product does not
 /// fit a word, or wraps to a small number.
 fn refused_sides(comparer: &mut Comparer, earlier: &mut Earlier) -> Outcome {
     const BODIES: [&[u8]; 6] = [&[], &[0], &[0x10, 5], &[3], &[0x03, 0x03, 0x03, 0x03], &[0xF2; 40]];
@@ -104,7 +104,7 @@ fn refused_sides(comparer: &mut Comparer, earlier: &mut Earlier) -> Outcome {
     Ok(())
 }
 
-/// The largest planes that there are: whole, cut, and in a destination that is one byte short.
+/// The largest planes: complete, truncated, and in a destination that is one byte short.
 fn largest_planes(comparer: &mut Comparer, earlier: &mut Earlier) -> Outcome {
     let (width, height) = (MAX_SIDE, MAX_SIDE);
     let plane: Vec<u8> = (0..width * height).map(|at| (at % width / 100 + at / width) as u8).collect();
