@@ -6,7 +6,7 @@ pub mod decoder;
 pub mod encoder;
 
 use comparer::report::report;
-use comparer::shrink::shrink;
+use comparer::shrink::{shrink_within, LIMIT};
 use comparer::{Case, Comparer, Difference, Function, Library, Outcome};
 
 /// The buffers of one call. Indices are not checked: a planted mistake may be out of bounds, as it would be in a library.
@@ -113,6 +113,9 @@ pub fn first_refused(tests: [(bool, i64); 3], order: [usize; 3]) -> i64 {
     order.iter().map(|&at| tests[at]).find(|test| test.0).map_or(0, |test| test.1)
 }
 
+/// No search here may cost more than this part of shrinking's limit.
+const MARGIN: u64 = 4;
+
 /// Some cases of one kind: what a round of random cases does.
 pub type Round = Box<dyn FnMut(&mut Comparer) -> Outcome>;
 
@@ -137,7 +140,9 @@ impl Search {
         for _ in 0..self.rounds {
             outcome = outcome.and_then(|()| round(&mut comparer));
         }
-        outcome.err().map(|difference| shrink(&mut comparer, difference))
+        let (smallest, cost) = shrink_within(&mut comparer, outcome.err()?, LIMIT);
+        assert!(cost <= LIMIT / MARGIN, "shrinking cost {cost}, near the limit of {LIMIT}");
+        Some(smallest)
     }
 
     /// One that random cases find alone.
