@@ -17,9 +17,9 @@ use std::ops::Range;
 /// What one call of `shrink` may cost. Trying a case costs `PER_CASE`, and 1 for each byte of its buffers. So the limit is about the
 /// same time for small cases and for large ones, and what is found does not depend on the machine.
 ///
-/// Of the tests here `an_images_length_that_wraps` costs most, 2,254,189,824 for 30,880 cases, then `refusal_12_by_a_product_that_wraps`
-/// with 1,766,525,490 and `one_colour_wrong` with 231,713,560; all others cost less than 3 million. tests/support/mod.rs asserts that
-/// none costs more than a quarter of the limit.
+/// Of the tests here `refusal_12_by_a_product_that_wraps` costs most, 1,766,525,490 for 23,846 cases, then
+/// `an_images_length_that_wraps` with 375,781,866 and `one_colour_wrong` with 231,713,560; all others cost less than 3 million.
+/// tests/support/mod.rs asserts that none costs more than a quarter of the limit.
 pub const LIMIT: u64 = 10_000_000_000;
 const PER_CASE: u64 = 500;
 

@@ -6,7 +6,8 @@ use crate::picture::{Form, OwnedPicture, Planes, Sizes};
 use crate::planes::segment_starts;
 use std::ops::Range;
 
-/// Longer bodies lose rows and columns before anything else is tried: comparing them takes long.
+/// With longer bodies fewer rows and columns are tried before anything else, and before these a shorter image if it is too short
+/// already: comparing them takes long.
 const LONG: usize = 1 << 16;
 /// Of bodies up to this length segments are left out.
 const SHORT: usize = 64;
@@ -15,9 +16,13 @@ const SHORT: usize = 64;
 /// so shrinking ends.
 pub fn smaller(case: &OwnedPicture) -> impl Iterator<Item = OwnedPicture> + '_ {
     let long = case.body.len() > LONG;
-    long.then(|| with_smaller_planes(case))
+    let short_image = case.image.len() < needs(case.form, case.width, case.height).1;
+    let shorter_slices = (long && short_image).then(|| with_shorter_slices(case));
+    let smaller_planes = long.then(|| with_smaller_planes(case));
+    shorter_slices
         .into_iter()
         .flatten()
+        .chain(smaller_planes.into_iter().flatten())
         .chain(with_plainer_form(case))
         .chain(with_lower_sides(case))
         .chain(with_smaller_planes(case))
