@@ -175,6 +175,9 @@ struct Answers {
 
 /// `by 7: 3, by 8: 0` and so on.
 fn listed(refused: &[u64; 13], numbers: &[usize]) -> String {
+    if numbers.is_empty() {
+        return "none".to_owned();
+    }
     let texts: Vec<_> = numbers.iter().map(|&number| format!("by {number}: {}", refused[number])).collect();
     texts.join(", ")
 }

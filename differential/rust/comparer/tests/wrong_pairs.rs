@@ -9,7 +9,7 @@ use comparer::{Function, Library};
 use support::{exported, Call, RightPack, Search, Slices, RIGHT_LIBRARY, RIGHT_UNPACK};
 
 const ALWAYS_7: u8 = 1;
-const SEVEN_IF_CUT: u8 = 2;
+const SEVEN_IF_TRUNCATED: u8 = 2;
 const INVENTED_COUNT: u8 = 3;
 const COUNT_IS_ALL: u8 = 4;
 const NEXT_ROW_AS_SAMPLES: u8 = 5;
@@ -19,7 +19,7 @@ const HALF_A_SEGMENT: u8 = 8;
 const LAST_ROW_CODED: u8 = 9;
 const REST_CLEARED: u8 = 10;
 const FIRST_ROW_COPIED: u8 = 11;
-const CUT_TAKEN: u8 = 12;
+const TRUNCATED_TAKEN: u8 = 12;
 const EIGHT_FOR_SEVEN: u8 = 13;
 const FOLLOWING_REFUSED: u8 = 14;
 
@@ -56,7 +56,7 @@ impl<const MISTAKE: u8> Call for Unpacker<MISTAKE> {
         }
         let answer = right(&slices, width, height);
         if answer < 0 {
-            spoil_cut::<MISTAKE>(&mut slices, &before, width, answer)
+            spoil_truncated::<MISTAKE>(&mut slices, &before, width, answer)
         } else {
             spoil_complete::<MISTAKE>(&mut slices, width, height, answer)
         }
@@ -64,11 +64,11 @@ impl<const MISTAKE: u8> Call for Unpacker<MISTAKE> {
 }
 
 /// What is done wrong with a truncated packing.
-fn spoil_cut<const MISTAKE: u8>(slices: &mut Slices, before: &[u8], width: usize, answer: i64) -> i64 {
+fn spoil_truncated<const MISTAKE: u8>(slices: &mut Slices, before: &[u8], width: usize, answer: i64) -> i64 {
     let filled = filled(slices);
     let next = filled / width * width;
     match MISTAKE {
-        SEVEN_IF_CUT => slices.destination().copy_from_slice(before),
+        SEVEN_IF_TRUNCATED => slices.destination().copy_from_slice(before),
         NEXT_ROW_UNTOUCHED => slices.destination()[next..].copy_from_slice(&before[next..]),
         NEXT_ROW_CLEARED => slices.destination()[filled..next + width].fill(0),
         NEXT_ROW_AS_SAMPLES if next > 0 => (next..filled)
@@ -79,7 +79,7 @@ fn spoil_cut<const MISTAKE: u8>(slices: &mut Slices, before: &[u8], width: usize
             slices.destination()[next - width..next].copy_from_slice(&row);
         }
         HALF_A_SEGMENT => put_half(slices, filled, next + width),
-        CUT_TAKEN => return slices.src_len as i64,
+        TRUNCATED_TAKEN => return slices.src_len as i64,
         EIGHT_FOR_SEVEN => return -8,
         _ => {}
     }
@@ -112,7 +112,7 @@ fn spoil_complete<const MISTAKE: u8>(slices: &mut Slices, width: usize, height: 
 }
 
 /// A packer and an unpacker that are wrong in the same way: they take every sample's complement for the sample. What is
-/// packed comes back as it was.
+/// packed is unpacked to the same samples.
 struct PackComplements;
 
 impl Call for PackComplements {
@@ -189,13 +189,13 @@ fn every_value_a_segment_of_its_own() {
 }
 
 #[test]
-fn an_unpacker_that_says_7_at_once() {
+fn an_unpacker_that_always_answers_7() {
     is_found(exported::<Unpacker<ALWAYS_7>>, "px 1 1 00 2 - EE");
 }
 
 #[test]
 fn nothing_unpacked_if_bytes_are_missing() {
-    is_found(exported::<Unpacker<SEVEN_IF_CUT>>, "px 1 2 0000 2 - EEEE");
+    is_found(exported::<Unpacker<SEVEN_IF_TRUNCATED>>, "px 1 2 0000 2 - EEEE");
 }
 
 #[test]
@@ -245,7 +245,7 @@ fn the_first_row_copied_down() {
 
 #[test]
 fn a_truncated_packing_taken_for_complete() {
-    is_found(exported::<Unpacker<CUT_TAKEN>>, "px 1 1 00 0 - EE");
+    is_found(exported::<Unpacker<TRUNCATED_TAKEN>>, "px 1 1 00 0 - EE");
 }
 
 #[test]
