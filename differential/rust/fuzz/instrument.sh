@@ -3,10 +3,18 @@
 # edges in it. `rt` does it, in a folder that has this repository's crates and what is proved of them, with a kit whose clang is the
 # one beside this script.
 #
-#   instrument.sh FOLDER     FOLDER/librdp6.a
+#   instrument.sh FOLDER   makes FOLDER/librdp6.a
+#   instrument.sh --help   prints this
 set -euo pipefail
 
 here=$(cd "$(dirname "${BASH_SOURCE[0]}")" && pwd)
+. "$here/../../arguments.sh"
+script=differential/rust/fuzz/instrument.sh
+
+wants_help "$@" && usage
+[ $# -gt 0 ] || refuse "no FOLDER"
+case $1 in -*) unexpected "$1" ;; esac
+at_most 1 "$@"
 top=$(cd "$here/../../.." && pwd)
 folder=$(realpath -m "$1")
 kit=${RATTLE_HOME:-$(dirname "$(dirname "$(readlink -f "$(command -v rt)")")")}

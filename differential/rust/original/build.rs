@@ -18,7 +18,7 @@ fn file_of(folder: &Path, name: &str) -> PathBuf {
     let file = folder.join("crates/ironrdp-graphics/src").join(name);
     println!("cargo:rerun-if-changed={}", file.display());
     fs::canonicalize(&file).unwrap_or_else(|why| {
-        eprintln!("The Rust that was ported is missing: {} ({why}).", file.display());
+        eprintln!("IronRDP is missing: {} ({why}).", file.display());
         eprintln!("Set RDP6_RUST_SOURCE to the folder that holds crates/ironrdp-graphics of the repository");
         eprintln!("Devolutions/IronRDP at commit 7793f5232a.");
         process::exit(1)

@@ -1,4 +1,4 @@
-//! Links the port: a static library, whose path is a setting.
+//! Links librdp6.a, whose path is the setting RDP6_LIBRARY.
 
 use std::path::{Path, PathBuf};
 use std::{env, fs, process};
@@ -12,7 +12,7 @@ fn library() -> PathBuf {
 }
 
 fn stop(file: &Path, why: &str) -> ! {
-    eprintln!("The library of the port cannot be linked: {} ({why}).", file.display());
+    eprintln!("The library cannot be linked: {} ({why}).", file.display());
     eprintln!("Make it with `rt staticlib rdp6` at the top of the repository, or set RDP6_LIBRARY to its path.");
     process::exit(1)
 }

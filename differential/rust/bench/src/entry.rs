@@ -1,4 +1,4 @@
-//! What is measured: the same call of IronRDP and of the port, from the same source into the same buffers.
+//! What is measured: the same call of IronRDP and of the library, from the same source into the same buffers.
 
 use comparer::encoding::given::pixels;
 use comparer::encoding::Sources;
@@ -20,7 +20,7 @@ pub enum Entry {
     },
 }
 
-const LEVEL: u8 = 3;
+const LEVEL: u32 = 3;
 
 /// The entries with their names, in the order of the tables.
 pub fn entries() -> [(&'static str, Entry); 9] {
@@ -59,11 +59,11 @@ impl Entry {
         }
     }
 
-    /// What is handed over of a picture, or of its first plane.
+    /// The source of a call: a picture, or its first plane.
     pub fn source(self, planes: &Planes, side: usize) -> Vec<u8> {
         let [first, _, _] = &planes.colours;
         match self {
-            Entry::UnpackPlane => original::pack(first, side, side).expect("a whole plane with room"),
+            Entry::UnpackPlane => original::pack(first, side, side).expect("a complete plane with room"),
             Entry::PackPlane => first.clone(),
             Entry::Unpack(form) => planes.body(form, side, side),
             Entry::PackChannels { .. } => planes.colours.concat(),
@@ -103,14 +103,14 @@ impl Entry {
     }
 
     /// IronRDP's answer as one number.
-    pub fn by_rust(self, source: &[u8], buffers: &mut Buffers, side: usize) -> i64 {
+    pub fn by_ironrdp(self, source: &[u8], buffers: &mut Buffers, side: usize) -> i64 {
         let (source, Buffers { work, out }) = (black_box(source), black_box(buffers));
         let answer = match self {
             Entry::UnpackPlane => original::unpack(source, out, side, side),
             Entry::PackPlane => original::compress(source, out, side, side),
             Entry::Unpack(form) => {
                 out.clear();
-                original::decode(form.header().expect("a form that the Rust has"), source, work, out, side, side)
+                original::decode(form.header().expect("a form that IronRDP has"), source, work, out, side, side)
             }
             Entry::PackPixels { rle } => original::encode_bitmap(source, false, out, rle, side, side).answer,
             Entry::PackChannels { rle } => original::encode_channels(thirds(source), None, out, rle, side, side).answer,
@@ -118,8 +118,8 @@ impl Entry {
         answer.number().expect("an answer")
     }
 
-    /// The port's.
-    pub fn by_port(self, source: &[u8], buffers: &mut Buffers, side: usize) -> i64 {
+    /// The library's.
+    pub fn by_library(self, source: &[u8], buffers: &mut Buffers, side: usize) -> i64 {
         let (source, Buffers { work, out }) = (black_box(source), black_box(buffers));
         let out = &mut out[self.start()..];
         match self {

@@ -12,7 +12,7 @@ pub fn figure(value: f64) -> String {
     format!("{value:.decimals$}")
 }
 
-/// A whole number with a comma between thousands.
+/// An integer with a comma between thousands.
 pub fn grouped(value: usize) -> String {
     let digits = value.to_string();
     let head = digits.len() % 3;
@@ -22,26 +22,26 @@ pub fn grouped(value: usize) -> String {
     parts.join(",")
 }
 
-/// The middle of some values, and the least and the most of them.
+/// The middle of some values, and the lowest and the highest.
 pub struct Spread {
     pub median: f64,
-    least: f64,
-    most: f64,
+    min: f64,
+    max: f64,
 }
 
 impl Spread {
     pub fn of(values: impl Iterator<Item = f64>) -> Spread {
         let mut values: Vec<f64> = values.collect();
         values.sort_by(f64::total_cmp);
-        Spread { median: values[values.len() / 2], least: values[0], most: values[values.len() - 1] }
+        Spread { median: values[values.len() / 2], min: values[0], max: values[values.len() - 1] }
     }
 
-    /// With the least and the most where they differ as written.
+    /// With the lowest and the highest where they differ as written.
     pub fn text(&self) -> String {
-        let [median, least, most] = [self.median, self.least, self.most].map(figure);
-        match least == most {
+        let [median, min, max] = [self.median, self.min, self.max].map(figure);
+        match min == max {
             true => median,
-            false => format!("{median} ({least} to {most})"),
+            false => format!("{median} ({min} to {max})"),
         }
     }
 }

@@ -1,5 +1,5 @@
-//! Measures IronRDP and the port side by side: the same sources, the same buffers, in turn within each round. The tables are written
-//! in Markdown, for docs/PERFORMANCE.md.
+//! Measures IronRDP and the library: the same sources, the same buffers, one after the other within each round. The tables are
+//! Markdown, for docs/PERFORMANCE.md.
 
 mod clock;
 mod entry;
@@ -9,25 +9,36 @@ mod pages;
 mod speed;
 mod stack;
 
-use std::process::exit;
+use comparer::arguments::{asks_for_help, refused, unexpected};
+use std::process::ExitCode;
 
 const RUNS: usize = 5;
 
-fn main() {
+const USAGE: &str = "\
+usage: bench [--runs N]   every entry with three kinds of picture, beside a memcpy of the output; 5 runs or N
+       bench --sizes      time per pixel from 64 x 64 to 8,192 x 8,192; takes minutes and 1.1 GB of memory
+       bench --stack      the stack that each C function takes; needs objdump
+       bench --help       prints this";
+
+fn main() -> ExitCode {
     let words: Vec<String> = std::env::args().skip(1).collect();
-    match words.iter().map(String::as_str).collect::<Vec<_>>()[..] {
+    let words: Vec<&str> = words.iter().map(String::as_str).collect();
+    if asks_for_help(&words) {
+        println!("{USAGE}");
+        return ExitCode::SUCCESS;
+    }
+    match words[..] {
         [] => speed::print_main_table(RUNS),
         ["--runs", runs] => match runs.parse() {
             Ok(runs @ 1..) => speed::print_main_table(runs),
-            _ => usage(),
+            _ => return refused("bench", &format!("N must be a number from 1: {runs}")),
         },
+        ["--runs"] => return refused("bench", "--runs needs a number"),
         ["--sizes"] => speed::print_size_table(),
         ["--stack"] => stack::print_stack_table(),
-        _ => usage(),
+        ["--sizes" | "--stack", word, ..] | ["--runs", _, word, ..] | [word, ..] => {
+            return refused("bench", &unexpected(word))
+        }
     }
-}
-
-fn usage() -> ! {
-    eprintln!("usage: differential/bench [--fastest] [--runs N | --sizes | --stack]");
-    exit(2)
+    ExitCode::SUCCESS
 }

@@ -1,14 +1,14 @@
-//! IronRDP, the port and a plain copy of the output, in turn within each round.
+//! IronRDP, the library and a plain copy of the output, one after the other within each round.
 
 use crate::clock::nanoseconds;
 use crate::entry::{Buffers, Entry};
 use crate::pages::Kind;
 use std::hint::black_box;
 
-/// A copy of less is repeated up to so many bytes, or the clock would be measured.
-const LEAST_COPIED: usize = 1 << 20;
+/// A copy of fewer bytes is repeated up to so many, or the clock would be measured.
+const MIN_COPIED: usize = 1 << 20;
 
-/// A source, IronRDP's answer to it, and the output that it comes to.
+/// A source, IronRDP's answer to it, and its output.
 struct Input {
     source: Vec<u8>,
     answer: i64,
@@ -18,7 +18,7 @@ struct Input {
 impl Input {
     /// What IronRDP makes of a source.
     fn new(entry: Entry, source: Vec<u8>, buffers: &mut Buffers, side: usize) -> Input {
-        let answer = entry.by_rust(&source, buffers, side);
+        let answer = entry.by_ironrdp(&source, buffers, side);
         let output = buffers.out[entry.start()..][..entry.output_len(answer, side)].to_vec();
         Input { source, answer, output }
     }
@@ -27,19 +27,19 @@ impl Input {
 /// Who is measured.
 #[derive(Clone, Copy)]
 enum Who {
-    Rust,
-    Port,
+    IronRdp,
+    Library,
     Copy,
 }
 
 /// The order of each round starts one further than that of the round before.
-const ORDER: [Who; 3] = [Who::Rust, Who::Port, Who::Copy];
+const ORDER: [Who; 3] = [Who::IronRdp, Who::Library, Who::Copy];
 
 /// Nanoseconds a pixel.
 #[derive(Clone, Copy)]
 pub struct Times {
-    pub rust: f64,
-    pub port: f64,
+    pub ironrdp: f64,
+    pub library: f64,
     pub copy: f64,
 }
 
@@ -52,7 +52,7 @@ pub struct Job {
 }
 
 impl Job {
-    /// Pictures of this side that a sheet is cut into. Every output of the port has been compared once.
+    /// The pictures of this side of a sheet. Each output of the library is compared with IronRDP's once.
     pub fn new(entry: Entry, kind: Kind, sheet_side: usize, side: usize) -> Job {
         let mut buffers = entry.buffers(side);
         let pictures = kind.pictures(entry.form(), sheet_side, side).into_iter();
@@ -61,7 +61,7 @@ impl Job {
         let mut job = Job { entry, side, inputs, buffers };
         for at in 0..job.inputs.len() {
             job.clear();
-            job.call(Who::Port, at);
+            job.call(Who::Library, at);
             job.check_output(at);
         }
         job
@@ -77,7 +77,7 @@ impl Job {
         bytes as f64 / self.pixels() as f64
     }
 
-    /// Nothing of an earlier output is left to be taken for the next one.
+    /// Removes the last output, so that the next one is not taken for it.
     fn clear(&mut self) {
         self.buffers.out.fill(0);
     }
@@ -86,28 +86,28 @@ impl Job {
         let Job { entry, side, inputs, buffers } = self;
         let Input { source, answer, output } = &inputs[at];
         let given = match who {
-            Who::Rust => entry.by_rust(source, buffers, *side),
-            Who::Port => entry.by_port(source, buffers, *side),
+            Who::IronRdp => entry.by_ironrdp(source, buffers, *side),
+            Who::Library => entry.by_library(source, buffers, *side),
             Who::Copy => {
                 let to = &mut buffers.out[entry.start()..][..output.len()];
                 black_box(to).copy_from_slice(black_box(output));
                 *answer
             }
         };
-        assert_eq!(given, *answer, "all of it is done");
+        assert_eq!(given, *answer, "the answer is IronRDP's");
     }
 
     fn check_output(&self, at: usize) {
         let out = &self.buffers.out[self.entry.start()..];
-        assert!(out.starts_with(&self.inputs[at].output), "the output is the Rust's");
+        assert!(out.starts_with(&self.inputs[at].output), "the output is IronRDP's");
     }
 
     /// How often all the calls are made in one measurement.
     fn repeats(&self, who: Who) -> usize {
         let bytes: usize = self.inputs.iter().map(|input| input.output.len()).sum();
         match who {
-            Who::Copy => LEAST_COPIED.div_ceil(bytes),
-            Who::Rust | Who::Port => 1,
+            Who::Copy => MIN_COPIED.div_ceil(bytes),
+            Who::IronRdp | Who::Library => 1,
         }
     }
 
@@ -129,7 +129,7 @@ impl Job {
                 best[at] = self.time_of(ORDER[at]).min(best[at]);
             }
         }
-        let [rust, port, copy] = best;
-        Times { rust, port, copy }
+        let [ironrdp, library, copy] = best;
+        Times { ironrdp, library, copy }
     }
 }

@@ -36,14 +36,14 @@ impl Kind {
         }
     }
 
-    /// So many different drawings across and down as a sheet, cut into pictures of this side. So pictures of all sides can be had
-    /// that have the same content all in all. Each has three different planes.
+    /// Different drawings side by side as a sheet, divided into pictures of this side. So pictures of every side have the same content
+    /// in total. Each has three different planes.
     pub fn pictures(self, form: Form, sheet_side: usize, side: usize) -> Vec<Planes> {
         let rng = &mut Rng::new(1024);
         let chroma = |side| form.chroma_sides(side, side).0;
         let mut plane = |slope: usize, drawn: usize, sheet_side: usize, side: usize| {
             let sheet = laid_out(|| self.drawn(rng, drawn, SLOPES[slope]), drawn, sheet_side);
-            cut(&sheet, sheet_side, side)
+            squares(&sheet, sheet_side, side)
         };
         let first = plane(0, DRAWN, sheet_side, side);
         let [second, third] = [1, 2].map(|slope| plane(slope, chroma(DRAWN), chroma(sheet_side), chroma(side)));
@@ -65,7 +65,7 @@ fn laid_out(mut drawing: impl FnMut() -> Vec<u8>, drawn: usize, sheet_side: usiz
 }
 
 /// The squares of this side that a sheet has.
-fn cut(sheet: &[u8], sheet_side: usize, side: usize) -> Vec<Vec<u8>> {
+fn squares(sheet: &[u8], sheet_side: usize, side: usize) -> Vec<Vec<u8>> {
     let starts = || (0..sheet_side).step_by(side);
     let corners = starts().flat_map(|top| starts().map(move |left| (top, left)));
     let square = |(top, left): (usize, usize)| {

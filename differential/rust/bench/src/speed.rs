@@ -28,11 +28,11 @@ impl Line {
         print_row([
             self.name.clone(),
             figure(self.job.output_share()),
-            time(|times| times.rust),
-            time(|times| times.port),
-            self.spread(|times| times.port / times.rust).text(),
+            time(|times| times.ironrdp),
+            time(|times| times.library),
+            self.spread(|times| times.library / times.ironrdp).text(),
             time(|times| times.copy),
-            self.spread(|times| times.port / times.copy).text(),
+            self.spread(|times| times.library / times.copy).text(),
         ]);
     }
 }
@@ -51,32 +51,33 @@ pub fn print_main_table(runs: usize) {
     print_head(&[
         "1,024 × 1,024",
         "Output, bytes a pixel",
-        "Rust, ns a pixel",
-        "Port, ns a pixel",
-        "Port / Rust",
+        "IronRDP, ns a pixel",
+        "rdp6, ns a pixel",
+        "rdp6 / IronRDP",
         "memcpy of the output, ns a pixel",
-        "Port / memcpy",
+        "rdp6 / memcpy",
     ]);
     lines.iter().for_each(Line::print);
 }
 
 const SIDES: [usize; 5] = [64, 256, 1024, 4096, 8192];
-/// All sides have as many pixels to do, which take seconds.
+/// The pixels that are measured at every side, which take seconds.
 const SHEET: usize = 8192;
 const SHEET_ROUNDS: usize = 3;
-/// How many of the entries are measured so.
+/// How many of the entries are measured at these sides.
 const SIZED: usize = 7;
 
 /// Pages of each size.
 pub fn print_size_table() {
     let heads = SIDES.map(|side| format!("{0} × {0}", grouped(side)));
-    let columns: Vec<&str> = ["Port / Rust, ns a pixel"].into_iter().chain(heads.iter().map(String::as_str)).collect();
+    let columns: Vec<&str> =
+        ["rdp6 / IronRDP, ns a pixel"].into_iter().chain(heads.iter().map(String::as_str)).collect();
     print_head(&columns);
     for (name, entry) in entries().into_iter().take(SIZED) {
         let cell = |side| {
             eprintln!("{name}, {side}");
             let times = Job::new(entry, Kind::Page, SHEET, side).best_times(SHEET_ROUNDS);
-            format!("{} / {}", figure(times.port), figure(times.rust))
+            format!("{} / {}", figure(times.library), figure(times.ironrdp))
         };
         print_row([name.to_owned()].into_iter().chain(SIDES.map(cell)));
     }

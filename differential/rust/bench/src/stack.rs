@@ -1,8 +1,8 @@
 //! How much stack each C function takes: measured on inputs that go deep, and read from the machine code for all inputs.
 
 mod calls;
+mod depth;
 mod frames;
-mod painted;
 
 use crate::figures::{grouped, print_head, print_row};
 use frames::Frames;

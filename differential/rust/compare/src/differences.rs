@@ -1,11 +1,13 @@
-//! What IronRDP does outside document 01's domain, one small input for each way. docs/DIFFERENCES.md lists them.
+//! Inputs where IronRDP and the library differ, the smallest for each way, and some where they agree. docs/DIFFERENCES.md lists them.
 
+use comparer::arguments::refused;
 use comparer::bytes;
 use comparer::case::Operation;
 use comparer::check::answer_text;
-use comparer::demand::{Demand, Plane};
 use comparer::encoding::{Encoding, OwnedEncoding, Sources};
 use comparer::picture::{OwnedPicture, Sizes};
+use comparer::prefix::{Plane, PrefixCase};
+use comparer::report::shortened;
 use comparer::{Case, Input, Owned};
 use original::{Encoded, Header};
 use std::process::ExitCode;
@@ -50,7 +52,7 @@ const PACKING: [Place; 6] = [
         ],
     ),
     (
-        "the source ends inside the last row, and what the decoder says to that",
+        "the source ends inside the last row, and what the decoder answers to that",
         &["pp 2 1 05 EE*2", "pu 2 1 1005 EE*2", "pp 3 2 01020304 EE*6", "pu 3 2 300102031006 EE*6"],
     ),
     (
@@ -78,13 +80,17 @@ const PICTURES: [Place; 9] = [
         ],
     ),
     (
-        "a loss level of 0 or over 7, a definition that there is not",
+        "a loss level of 0 or over 7, an unknown definition",
         &[
             "iu 1 1 0 1 0:0 00644000 - EE*3",
             "iu 1 1 0 1 8:0 00640100 - EE*3",
             "iu 1 1 0 1 9:0 00640100 - EE*3",
             "iu 1 1 0 1 255:0 00640100 - EE*3",
+            "iu 1 1 0 1 257:0 00640100 - EE*3",
+            "iu 1 1 0 1 4294967295:0 00640100 - EE*3",
             "iu 1 1 0 0 2:1:0 000000 - EE*3",
+            "iu 1 1 0 0 256:1:0 000000 - EE*3",
+            "iu 1 1 0 0 257:1:0 000000 - EE*3",
         ],
     ),
     (
@@ -145,7 +151,7 @@ const ENCODING: [Place; 10] = [
         ],
     ),
     (
-        "RLE, a source ends inside the last row, and what the decoder says to that",
+        "RLE, a source ends inside the last row, and what the decoder answers to that",
         &[
             "pc 2 1 1 05 0505 0505 none EE*8",
             "iu 2 1 1 0 argb 1005200505200505 EE*6 EE*6",
@@ -198,11 +204,11 @@ const ENCODING: [Place; 10] = [
     ),
 ];
 
-/// The same of packing: which samples are used, and what the header says whatever comes after it.
+/// The same of packing: which samples are used, and what is in the header.
 const ENCODING_ALIKE: [Place; 4] = [
     ("RLE, long sources", &["pc 2 1 1 010203 040506 070809 none EE*9", "pb 1 1 1 0 0102030405060708 EE*6"]),
     (
-        "bytes behind the last whole pixel",
+        "bytes behind the last complete pixel",
         &["pb 1 1 0 0 01020304AABBCC EE*4", "pb 2 1 0 1 0102030405060708AABBCC EE*9", "pb 1 1 1 1 01020304AA EE*8"],
     ),
     (
@@ -224,7 +230,7 @@ const ENCODING_ALIKE: [Place; 4] = [
     ),
 ];
 
-/// Inside the domain, where both do the same: what document 01 says in few words.
+/// Inside the domain, where both do the same.
 const ALIKE: [Place; 5] = [
     ("the work area holds the planes after a picture is done", &["iu 1 1 1 1 1:0 10FF1064100A1014 EE*3 EE*3"]),
     (
@@ -239,14 +245,14 @@ const ALIKE: [Place; 5] = [
         ],
     ),
     (
-        "a body of its least size need not be whole: example 17",
+        "a body of its minimum size need not be complete: example 17",
         &["iu 48 1 1 0 argb F21077F21077 EE*144 EE*144", "iu 48 1 1 0 argb 020102010201 EE*144 EE*144"],
     ),
     ("alpha is left where the first colour plane is refused", &["iu 2 1 1 1 argb 200102100300 EE*6 EE*6"]),
     ("a subsampled picture needs less", &["iu 2 2 1 0 1:1 2001022002041003100A EE*6 EE*12"]),
 ];
 
-/// Runs the whole table.
+/// Runs all tables.
 pub fn print_all() -> ExitCode {
     println!("plane unpacking");
     UNPACKING.iter().for_each(print_place);
@@ -270,11 +276,10 @@ fn print_place((place, cases): &Place) {
     }
 }
 
-/// Runs one case, wherever it lies.
+/// Runs one case, inside the domain or outside.
 pub fn print_one(text: &str) -> ExitCode {
     let Some(input) = Input::parse(text) else {
-        eprintln!("not a case: {text}");
-        return ExitCode::from(2);
+        return refused("compare", &format!("not a case: {}", shortened(text)));
     };
     print_input(&input);
     ExitCode::SUCCESS
@@ -286,12 +291,12 @@ fn print_input(input: &Input) {
         Input::Picture(case) => print_picture(case),
         Input::Sizes(case) => print_sizes(case),
         Input::Encoding(case) => print_encoding(case),
-        Input::Demand(case) => print_demand(case),
+        Input::Prefix(case) => print_prefix(case),
     }
 }
 
-/// What the port does, on slices that are passed.
-fn by_port(case: &Owned, after: &mut [u8]) -> i64 {
+/// What the library answers; `after` is its destination.
+fn by_library(case: &Owned, after: &mut [u8]) -> i64 {
     let function = match case.operation {
         Operation::Unpack => ours::unpack,
         Operation::Pack => ours::pack,
@@ -305,24 +310,24 @@ fn print_call(case: &Owned) {
 }
 
 fn print_both(case: &Owned) {
-    let mut rust_after = case.before.clone();
-    let rust = case.view().by_rust(&mut rust_after);
-    let mut port_after = case.before.clone();
-    let port = by_port(case, &mut port_after);
-    println!("    the Rust: {rust}, destination {}", bytes::text(&rust_after));
-    println!("    the port: {}, destination {}", answer_text(port), bytes::text(&port_after));
+    let mut ironrdp_after = case.before.clone();
+    let ironrdp = case.view().by_ironrdp(&mut ironrdp_after);
+    let mut library_after = case.before.clone();
+    let library = by_library(case, &mut library_after);
+    println!("    IronRDP: {ironrdp}, destination {}", bytes::text(&ironrdp_after));
+    println!("    rdp6: {}, destination {}", answer_text(library), bytes::text(&library_after));
 }
 
-/// IronRDP gets the work area as it is, and an empty image: what it makes is appended to whatever there was.
+/// IronRDP gets the work area as it is, and an empty image, to which it appends.
 fn print_picture(case: &OwnedPicture) {
     let OwnedPicture { width, height, form, .. } = *case;
     println!("  {case}");
     let (mut work, mut image) = (case.work.clone(), Vec::new());
-    match case.view().by_rust(&mut work, &mut image) {
-        Some(rust) => {
-            println!("    the Rust: {rust}, work area {}, image made {}", bytes::text(&work), bytes::text(&image));
+    match case.view().by_ironrdp(&mut work, &mut image) {
+        Some(answer) => {
+            println!("    IronRDP: {answer}, work area {}, image made {}", bytes::text(&work), bytes::text(&image));
         }
-        None => println!("    the Rust: has no such definition"),
+        None => println!("    IronRDP: its header has no such definition or level"),
     }
     let (mut work, mut image) = (case.work.clone(), case.image.clone());
     let form = ours::Form {
@@ -332,8 +337,8 @@ fn print_picture(case: &OwnedPicture) {
         level: form.level,
         subsampled: form.subsampled,
     };
-    let port = answer_text(ours::decode(form, &case.body, &mut work, &mut image, width, height));
-    println!("    the port: {port}, work area {}, image {}", bytes::text(&work), bytes::text(&image));
+    let answer = answer_text(ours::decode(form, &case.body, &mut work, &mut image, width, height));
+    println!("    rdp6: {answer}, work area {}, image {}", bytes::text(&work), bytes::text(&image));
 }
 
 fn print_sizes(case: &Sizes) {
@@ -346,7 +351,7 @@ fn print_sizes(case: &Sizes) {
             ours::rdp6_image_size(case.width, case.height),
         )
     };
-    println!("    the port: work area {work}, image {image}");
+    println!("    rdp6: work area {work}, image {image}");
 }
 
 /// IronRDP gets a destination with a byte in front, in which its header is left.
@@ -354,15 +359,15 @@ fn print_encoding(case: &OwnedEncoding) {
     let Encoding { width, height, rle, .. } = *case;
     println!("  {case}");
     let mut after = [&[0xEE], &case.before[..]].concat();
-    let Encoded { answer, header } = case.view().by_rust(&mut after);
+    let Encoded { answer, header } = case.view().by_ironrdp(&mut after);
     let header = header.map_or("no header".to_owned(), header_text);
-    println!("    the Rust: {answer}, {header}, destination behind it {}", bytes::text(&after[1..]));
+    println!("    IronRDP: {answer}, {header}, destination behind it {}", bytes::text(&after[1..]));
     let mut after = case.before.clone();
-    let port = match case.sources.view() {
+    let answer = match case.sources.view() {
         Sources::Channels { colours, alpha } => ours::encode_channels(colours, alpha, &mut after, rle, width, height),
         Sources::Pixels { pixels, alpha } => ours::encode_bitmap(pixels, alpha, &mut after, rle, width, height),
     };
-    println!("    the port: {}, destination {}", answer_text(port), bytes::text(&after));
+    println!("    rdp6: {}, destination {}", answer_text(answer), bytes::text(&after));
 }
 
 fn header_text(header: Header) -> String {
@@ -370,8 +375,8 @@ fn header_text(header: Header) -> String {
     format!("header RLE {} alpha {} {definition:?}", u8::from(rle), u8::from(alpha))
 }
 
-/// The packing that the rules make, what both packers make, what the demand wants of the bytes taken, what both unpackers do.
-fn print_demand(case: &Demand) {
+/// The packing of the model and of both packers, then what the prefix theorem requires of the first M bytes, and what both unpackers do.
+fn print_prefix(case: &PrefixCase) {
     let (width, height) = (case.width, case.height);
     let plane = Plane::new(width, height, &case.samples);
     let packing = &plane.model.packing;

@@ -1,15 +1,13 @@
-//! Compares the port's library with IronRDP.
-//!
-//!   compare [SECONDS] [SEED]   the whole comparison
-//!   compare --case 'pu ...'    one case, both answers; also pp, iu, is, pc, pb and d3
-//!   compare --differences      what IronRDP does outside document 01's domain, and what the port does
+//! Compares the library with IronRDP. `USAGE` has the command line.
 
 mod differences;
 
+use comparer::arguments::{self, asks_for_help, refused, unexpected};
 use comparer::encoding::check::Encoders;
 use comparer::picture::check::Pictures;
+use comparer::report::report;
 use comparer::shrink::shrink;
-use comparer::{demand, encoding, packing, picture, unpacking, Comparer, Library, Outcome};
+use comparer::{encoding, packing, picture, prefix, unpacking, Comparer, Library, Outcome};
 use ours::{rdp6_compress_8bpp_plane, rdp6_decode, rdp6_decompress_8bpp_plane, rdp6_image_size, rdp6_work_size};
 use ours::{rdp6_encode_bitmap, rdp6_encode_bitmap_alpha};
 use ours::{rdp6_encode_channels_stream, rdp6_encode_channels_stream_alpha};
@@ -19,34 +17,47 @@ use std::time::{Duration, Instant};
 const SECONDS: u64 = 10;
 const SEED: u64 = 6;
 
+const USAGE: &str = "\
+usage: differential/run [SECONDS] [SEED]   compares all functions, by default for 10 seconds with seed 6; status 1 on a difference
+       differential/run --case CASE        runs one case and prints what IronRDP and rdp6 answer
+       differential/run --differences      the same for a table of inputs where IronRDP and rdp6 differ, and of some where they agree
+       differential/run --help             prints this
+
+A CASE is one of
+  'pu WIDTH HEIGHT BODY DST'                        unpacks a plane
+  'pp WIDTH HEIGHT SAMPLES DST'                     packs a plane
+  'iu WIDTH HEIGHT RLE ALPHA DEF BODY WORK IMAGE'   unpacks a picture; DEF is argb, argb:LEVEL:SUBSAMPLED, LEVEL:SUBSAMPLED for
+                                                    AYCoCg, or DEFINITION:LEVEL:SUBSAMPLED
+  'is WIDTH HEIGHT RLE DEFINITION SUBSAMPLED'       the sizes of a picture's work area and image
+  'pc WIDTH HEIGHT RLE R G B A DST'                 packs a picture from channels; A is none for three planes
+  'pb WIDTH HEIGHT RLE ALPHA PIXELS DST'            packs a picture from pixels
+  'px WIDTH HEIGHT SAMPLES M FOLLOWING DST'         packs a plane, then unpacks the first M bytes and, if M is all, FOLLOWING behind them
+Bytes are hexadecimal; HH*N stands for N times HH, with a comma behind it if more bytes follow; - stands for none.";
+
 fn main() -> ExitCode {
     let words: Vec<String> = std::env::args().skip(1).collect();
     let words: Vec<&str> = words.iter().map(String::as_str).collect();
+    if asks_for_help(&words) {
+        println!("{USAGE}");
+        return ExitCode::SUCCESS;
+    }
     match words[..] {
         ["--differences"] => differences::print_all(),
         ["--case", case] => differences::print_one(case),
+        ["--case"] => refused("compare", "--case needs a CASE"),
+        ["--differences", word, ..] | ["--case", _, word, ..] => refused("compare", &unexpected(word)),
+        [word, ..] | [_, word, ..] if word.starts_with('-') => refused("compare", &unexpected(word)),
+        [_, _, word, ..] => refused("compare", &unexpected(word)),
         [] => compare(SECONDS, SEED),
         [seconds] => with_numbers(seconds, &SEED.to_string()),
         [seconds, seed] => with_numbers(seconds, seed),
-        _ => usage(),
     }
 }
 
-fn usage() -> ExitCode {
-    eprintln!("usage: run [SECONDS] [SEED] | run --case CASE | run --differences");
-    eprintln!("  a CASE is 'pu WIDTH HEIGHT BODY DST', 'pp WIDTH HEIGHT SAMPLES DST',");
-    eprintln!("  'iu WIDTH HEIGHT RLE ALPHA DEF BODY WORK IMAGE' with DEF argb or LEVEL:SUBSAMPLED,");
-    eprintln!(
-        "  'is WIDTH HEIGHT RLE DEFINITION SUBSAMPLED', 'pc WIDTH HEIGHT RLE R G B A DST' with A none or samples,"
-    );
-    eprintln!("  'pb WIDTH HEIGHT RLE ALPHA PIXELS DST' or 'd3 WIDTH HEIGHT SAMPLES M FOLLOWING DST'");
-    ExitCode::from(2)
-}
-
 fn with_numbers(seconds: &str, seed: &str) -> ExitCode {
-    match (seconds.parse(), seed.parse()) {
+    match (arguments::seconds(seconds), arguments::seed(seed)) {
         (Ok(seconds), Ok(seed)) => compare(seconds, seed),
-        _ => usage(),
+        (Err(why), _) | (_, Err(why)) => refused("compare", &why),
     }
 }
 
@@ -62,13 +73,13 @@ const LIBRARY: Library = Library {
     },
 };
 
-/// Compares until the time is over, the part that is the same every time always whole.
+/// Compares all fixed cases, then random ones until the time is over.
 fn compare(seconds: u64, seed: u64) -> ExitCode {
-    println!("plane unpacking: the Rust's decompress_8bpp_plane and the library's rdp6_decompress_8bpp_plane");
-    println!("plane packing: the Rust's compress_8bpp_plane and the library's rdp6_compress_8bpp_plane");
-    println!("picture unpacking: the Rust's BitmapStreamDecoderImpl and the library's rdp6_decode");
-    println!("picture packing: the Rust's BitmapStreamEncoder and the library's four functions rdp6_encode_..");
-    println!("{seconds} seconds, seed {seed}; each case is called twice, its slices at either end of guarded pages");
+    println!("plane unpacking: IronRDP's decompress_8bpp_plane, rdp6_decompress_8bpp_plane");
+    println!("plane packing: IronRDP's compress_8bpp_plane, rdp6_compress_8bpp_plane");
+    println!("picture unpacking: IronRDP's BitmapStreamDecoderImpl, rdp6_decode");
+    println!("picture packing: IronRDP's BitmapStreamEncoder, the four functions rdp6_encode_..");
+    println!("{seconds} seconds, seed {seed}; each case is called twice, its buffers at either end of guarded pages");
     let mut comparer = Comparer::new(LIBRARY);
     let outcome = all_cases(&mut comparer, Duration::from_secs(seconds), seed);
     println!("{}", comparer.tally);
@@ -77,7 +88,7 @@ fn compare(seconds: u64, seed: u64) -> ExitCode {
         println!("{total} compared, 0 different");
         return ExitCode::SUCCESS;
     };
-    println!("{}", shrink(&mut comparer, difference));
+    println!("{}", report(&shrink(&mut comparer, difference), "difference.txt"));
     println!("{total} compared, 1 different, the last; nothing was compared after it");
     ExitCode::FAILURE
 }
@@ -91,13 +102,13 @@ fn all_cases(comparer: &mut Comparer, time: Duration, seed: u64) -> Outcome {
     let mut packing = packing::random::Random::new(seed);
     let mut pictures = picture::random::Random::new(seed);
     let mut encoding = encoding::random::Random::new(seed);
-    let mut demand = demand::random::Random::new(seed);
+    let mut prefixes = prefix::random::Random::new(seed);
     let mut kinds: [Random<'_>; KINDS] = [
         ("unpacking", &mut |comparer| unpacking.round(comparer)),
         ("packing", &mut |comparer| packing.round(comparer)),
         ("pictures", &mut |comparer| pictures.round(comparer)),
         ("picture packing", &mut |comparer| encoding.round(comparer)),
-        ("demand 3", &mut |comparer| demand.round(comparer)),
+        ("the prefix theorem", &mut |comparer| prefixes.round(comparer)),
     ];
     random_cases(comparer, &mut kinds, end)
 }
@@ -108,24 +119,24 @@ const KINDS: usize = 5;
 /// A kind of random cases: its name, and a round of it.
 type Random<'a> = (&'static str, &'a mut dyn FnMut(&mut Comparer) -> Outcome);
 
-/// How much a kind has had of the time, and what it did with it.
+/// The time that a kind has had, and its cases.
 #[derive(Clone, Copy, Default)]
 struct Share {
     time: Duration,
     cases: u64,
 }
 
-/// Rounds of the kinds, always of the one that has had the least time so far.
+/// Rounds of the kinds, always of the one with the least time so far.
 fn random_cases(comparer: &mut Comparer, kinds: &mut [Random<'_>; KINDS], end: Instant) -> Outcome {
     let mut shares = [Share::default(); KINDS];
     let mut now = Instant::now();
     while now < end {
-        let least = (0..KINDS).min_by_key(|&kind| shares[kind].time).expect("there are kinds");
+        let next = (0..KINDS).min_by_key(|&kind| shares[kind].time).expect("there are kinds");
         let before = comparer.tally.total();
-        (kinds[least].1)(comparer)?;
+        (kinds[next].1)(comparer)?;
         let begin = std::mem::replace(&mut now, Instant::now());
-        shares[least].time += now - begin;
-        shares[least].cases += comparer.tally.total() - before;
+        shares[next].time += now - begin;
+        shares[next].cases += comparer.tally.total() - before;
     }
     for ((name, _), share) in kinds.iter().zip(shares) {
         println!("random cases of {name}: {} in {:.1} s", share.cases, share.time.as_secs_f64());
@@ -141,7 +152,7 @@ fn fixed_cases(comparer: &mut Comparer) -> Outcome {
         ("packing", packing::fixed::run),
         ("pictures", picture::fixed::run),
         ("picture packing", encoding::fixed::run),
-        ("demand 3", demand::fixed::run),
+        ("the prefix theorem", prefix::fixed::run),
     ];
     for (name, run) in parts {
         let begin = Instant::now();

@@ -4,12 +4,12 @@ use crate::bytes;
 use original::Answer;
 use std::fmt;
 
-/// The longest side that document 01 allows.
+/// The longest side (FORMAT 1.4).
 pub const MAX_SIDE: usize = 8192;
 
-/// Sides within and outside document 01's domain, also such whose product does not fit a word, or wraps to a small number.
+/// Sides inside and outside the domain, also such whose product does not fit a word, or wraps to a small number.
 #[rustfmt::skip]
-pub const TELLING_SIDES: [usize; 16] = [
+pub const BOUNDARY_SIDES: [usize; 16] = [
     0, 1, 2, 3, MAX_SIDE - 1, MAX_SIDE, MAX_SIDE + 1, 9000, 16384, 65536, 1 << 32, (1 << 32) + 1, 1 << 62, usize::MAX / 2 + 1,
     usize::MAX - 1, usize::MAX,
 ];
@@ -76,7 +76,7 @@ impl<'a> Case<'a> {
         Case { operation: Operation::Pack, width, height, source: samples, before }
     }
 
-    /// Document 01's refusal before anything is read: 1, 2 and then 10 of unpacking or 11 of packing. `None` is inside its
+    /// The refusal before anything is read: 1, 2, then 10 of unpacking or 11 of packing (FORMAT 8). `None` is inside the
     /// domain.
     pub fn refused_at_entry(&self) -> Option<u8> {
         let (samples, number) = match self.operation {
@@ -95,7 +95,7 @@ impl<'a> Case<'a> {
     }
 
     /// What IronRDP answers; `after` is its destination.
-    pub fn by_rust(&self, after: &mut [u8]) -> Answer {
+    pub fn by_ironrdp(&self, after: &mut [u8]) -> Answer {
         match self.operation {
             Operation::Unpack => original::unpack(self.source, after, self.width, self.height),
             Operation::Pack => original::compress(self.source, after, self.width, self.height),

@@ -3,15 +3,16 @@
 use crate::bytes;
 use crate::case::{Case, Operation, Owned};
 use crate::encoding::check::{Encoders, Packed};
+use crate::guarded::{Buffer, GuardedMemory, Side, Watch, SIDES};
 use crate::input::{Input, View};
-use crate::lend::{Lender, Loan, Side, Watch, SIDES};
 use crate::picture::check::{Afters, Pictures};
-use crate::tally::{Judge, Kind, Tally};
+use crate::report::shortened;
+use crate::tally::{Kind, Reference, Tally};
 use original::Answer;
 use std::fmt;
 
-/// A plane unpacker or packer as a library has it: source, destination, width, height; bytes read or written, or minus the
-/// refusal's number.
+/// A plane unpacker or packer as C declares it: source, destination, width, height. The answer is the number of bytes read or written,
+/// or minus the refusal's number.
 pub type Function = unsafe extern "C" fn(*const u8, usize, *mut u8, usize, usize, usize) -> i64;
 
 /// What is compared with IronRDP.
@@ -32,26 +33,26 @@ impl Library {
     }
 }
 
-/// What the slices that are written to hold after a call, each with its name.
+/// What the buffers that can be written hold after a call, each with its name.
 #[derive(Clone, Debug)]
 pub struct After(pub Vec<(&'static str, Vec<u8>)>);
 
 impl fmt::Display for After {
     fn fmt(&self, f: &mut fmt::Formatter<'_>) -> fmt::Result {
-        self.0.iter().try_for_each(|(name, after)| write!(f, ", {name} {}", bytes::text(after)))
+        self.0.iter().try_for_each(|(name, after)| write!(f, "\n    {name} {}", bytes::text(after)))
     }
 }
 
-/// A call that does not do what it must.
-#[derive(Clone, Debug)]
+/// A call whose answer or buffers are not what the reference says.
+#[derive(Clone)]
 pub struct Difference {
     pub case: Input,
     pub reason: String,
     pub wanted: Answer,
     pub wanted_after: After,
-    /// Whose call it was.
-    pub whose: &'static str,
-    /// What that answered, in words.
+    /// Which side differs from the reference: `IronRDP` or `rdp6`.
+    pub side: &'static str,
+    /// Its answer, in words.
     pub got: String,
     pub got_after: After,
 }
@@ -63,8 +64,15 @@ impl fmt::Display for Difference {
     fn fmt(&self, f: &mut fmt::Formatter<'_>) -> fmt::Result {
         writeln!(f, "different: {}", self.reason)?;
         writeln!(f, "  {}", self.case)?;
-        writeln!(f, "  {}: {}{}", self.case.judge(), self.wanted, self.wanted_after)?;
-        write!(f, "  {}: {}{}", self.whose, self.got, self.got_after)
+        writeln!(f, "  {}: {}{}", self.case.reference(), self.wanted, self.wanted_after)?;
+        write!(f, "  {}: {}{}", self.side, self.got, self.got_after)
+    }
+}
+
+/// What a failed test prints.
+impl fmt::Debug for Difference {
+    fn fmt(&self, f: &mut fmt::Formatter<'_>) -> fmt::Result {
+        f.write_str(&shortened(&self.to_string()))
     }
 }
 
@@ -77,14 +85,14 @@ pub fn answer_text(number: i64) -> String {
     }
 }
 
-/// A library, what is passed to it, and what was compared so far.
+/// A library, the memory of its buffers, and what was compared so far.
 pub struct Comparer {
     pub(crate) library: Library,
-    pub(crate) lender: Lender,
+    pub(crate) memory: GuardedMemory,
     /// What the destination must hold after the call, and what it holds.
     pub(crate) wanted_after: Vec<u8>,
     pub(crate) got_after: Vec<u8>,
-    /// The same of a picture's two slices.
+    /// The same of a picture's work area and image.
     pub(crate) afters: Afters,
     /// The same of a picture's packing.
     pub(crate) packed: Packed,
@@ -95,7 +103,7 @@ impl Comparer {
     pub fn new(library: Library) -> Self {
         Comparer {
             library,
-            lender: Lender::default(),
+            memory: GuardedMemory::default(),
             wanted_after: Vec::new(),
             got_after: Vec::new(),
             afters: Afters::default(),
@@ -109,21 +117,21 @@ impl Comparer {
         self.compare_at(kind, case, &SIDES)
     }
 
-    /// The same with the slices at these sides of their pages only, where both would take too long.
+    /// The same with the buffers at these sides of their pages only, where both would take too long.
     pub fn compare_at(&mut self, kind: Kind, case: Case<'_>, sides: &[Side]) -> Outcome {
-        let judge = Judge::rust_if(case.refused_at_entry().is_none());
+        let reference = Reference::ironrdp_if(case.refused_at_entry().is_none());
         let wanted = self.ask(case);
-        self.tally.count(kind, judge, &wanted);
-        self.hold_to(case, wanted, sides)
+        self.tally.count(kind, reference, &wanted);
+        self.compare_library(case, wanted, sides)
     }
 
-    /// Has the bytes beside what is passed told to a sanitiser.
+    /// Passes the bytes beside each buffer to a sanitiser.
     pub fn watch_by(&mut self, watch: Watch) {
-        self.lender.watch = Some(watch);
+        self.memory.watch = Some(watch);
     }
 
-    /// What must be answered and what the slices that are written to must hold then, without a call of the library; of the sizes
-    /// that of the work area. The prefix theorem (demand 3) is no call.
+    /// The answer that is required, and what the buffers must hold then, without a call of the library; of the two sizes that of
+    /// the work area. A case of the prefix theorem is more than one call and has no such answer.
     pub fn wanted(&mut self, input: &Input) -> Result<(Answer, After), Box<Difference>> {
         match input {
             Input::Call(case) => {
@@ -136,53 +144,53 @@ impl Comparer {
                 let answer = self.ask_encoding(case.view())?;
                 Ok((answer, self.packed.wanted_after()))
             }
-            Input::Demand(_) => unreachable!("demand 3 is no call"),
+            Input::Prefix(_) => unreachable!("a case of the prefix theorem is no single call"),
         }
     }
 
-    /// Compares a case that is not to be counted.
-    pub fn look(&mut self, input: &Input) -> Outcome {
+    /// Compares a case without counting it.
+    pub fn check(&mut self, input: &Input) -> Outcome {
         match input {
-            Input::Call(case) => self.look_at_call(case),
-            Input::Picture(case) => self.look_at_picture(case),
-            Input::Sizes(case) => self.look_at_sizes(case),
-            Input::Encoding(case) => self.look_at_encoding(case),
-            Input::Demand(case) => self.look_at_demand(case),
+            Input::Call(case) => self.check_call(case),
+            Input::Picture(case) => self.check_picture(case),
+            Input::Sizes(case) => self.check_sizes(case),
+            Input::Encoding(case) => self.check_encoding(case),
+            Input::Prefix(case) => self.check_prefix_case(case),
         }
     }
 
-    fn look_at_call(&mut self, case: &Owned) -> Outcome {
+    fn check_call(&mut self, case: &Owned) -> Outcome {
         let wanted = self.ask(case.view());
-        self.hold_to(case.view(), wanted, &SIDES)
+        self.compare_library(case.view(), wanted, &SIDES)
     }
 
-    /// What must be answered; `wanted_after` gets what the destination must hold.
+    /// The answer that is required; `wanted_after` gets what the destination must hold.
     fn ask(&mut self, case: Case<'_>) -> Answer {
         self.wanted_after.clear();
         self.wanted_after.extend_from_slice(case.before);
         match case.refused_at_entry() {
             Some(number) => Answer::Refused(number),
-            None => case.by_rust(&mut self.wanted_after),
+            None => case.by_ironrdp(&mut self.wanted_after),
         }
     }
 
-    fn hold_to(&mut self, case: Case<'_>, wanted: Answer, sides: &[Side]) -> Outcome {
+    fn compare_library(&mut self, case: Case<'_>, wanted: Answer, sides: &[Side]) -> Outcome {
         let Some((reason, got)) = self.library_fault(case, &wanted, sides) else {
             return Ok(());
         };
-        Err(self.difference(Input::Call(case.to_owned()), reason, wanted, "the library", answer_text(got)))
+        Err(self.difference(Input::Call(case.to_owned()), reason, wanted, "rdp6", answer_text(got)))
     }
 
-    /// Calls the library with the slices at these sides of their pages, and holds it to the answer and to `wanted_after`.
-    /// What it does wrong, if anything, with its answer; `got_after` then has its destination.
+    /// Calls the library with the buffers at these sides of their pages, and compares its answer with `wanted` and its destination
+    /// with `wanted_after`. Returns what differs, if anything, with the library's answer; `got_after` has its destination.
     pub(crate) fn library_fault(&mut self, case: Case<'_>, wanted: &Answer, sides: &[Side]) -> Option<(String, i64)> {
         let function = self.library.function(case.operation);
         let (len, room) = (case.source.len(), case.before.len());
         for &side in sides {
-            let loans =
-                [Loan::read("source", case.source), Loan::written("destination", case.before, &mut self.got_after)];
-            // SAFETY: both are passed for this call. That it keeps to them is what is tested.
-            let (got, harm) = self.lender.call(View::Call(case), side, loans, |[src, dst]| unsafe {
+            let buffers =
+                [Buffer::read("source", case.source), Buffer::written("destination", case.before, &mut self.got_after)];
+            // SAFETY: both buffers are valid during the call. That it stays inside them is tested.
+            let (got, harm) = self.memory.call(View::Call(case), side, buffers, |[src, dst]| unsafe {
                 function(src, len, dst, room, case.width, case.height)
             });
             if let Some(reason) = harm.or_else(|| self.fault(wanted.number() == Some(got))) {
@@ -208,11 +216,11 @@ impl Comparer {
         case: Input,
         reason: String,
         wanted: Answer,
-        whose: &'static str,
+        side: &'static str,
         got: String,
     ) -> Box<Difference> {
         let destination = |after: &Vec<u8>| After(vec![("destination", after.clone())]);
         let (wanted_after, got_after) = (destination(&self.wanted_after), destination(&self.got_after));
-        Box::new(Difference { case, reason, wanted, wanted_after, whose, got, got_after })
+        Box::new(Difference { case, reason, wanted, wanted_after, side, got, got_after })
     }
 }

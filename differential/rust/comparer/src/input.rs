@@ -1,10 +1,10 @@
-//! What can differ: one call of a plane coder, of a picture decoder or of a picture encoder, what the sizes are said to be, or
-//! one case of the prefix theorem (demand 3).
+//! What can differ: one call of a plane coder, of a picture decoder or of a picture encoder, the two sizes of a picture, or one case
+//! of the prefix theorem.
 
 use crate::case::{Case, Owned};
-use crate::demand::Demand;
 use crate::encoding::{Encoding, OwnedEncoding};
 use crate::picture::{OwnedPicture, Picture, Sizes};
+use crate::prefix::PrefixCase;
 use std::fmt;
 
 /// A case that holds its own bytes, of whatever form.
@@ -14,10 +14,10 @@ pub enum Input {
     Picture(OwnedPicture),
     Sizes(Sizes),
     Encoding(OwnedEncoding),
-    Demand(Demand),
+    Prefix(PrefixCase),
 }
 
-/// A call whose bytes are passed.
+/// A call that borrows its bytes.
 #[derive(Clone, Copy)]
 pub enum View<'a> {
     Call(Case<'a>),
@@ -36,29 +36,51 @@ impl View<'_> {
 }
 
 impl Input {
-    /// Reads a case that begins with `pu`, `pp`, `iu`, `is`, `pc`, `pb` or `d3`.
+    /// Reads a case that begins with `pu`, `pp`, `iu`, `is`, `pc`, `pb` or `px`.
     pub fn parse(text: &str) -> Option<Input> {
         Owned::parse(text)
             .map(Input::Call)
             .or_else(|| OwnedPicture::parse(text).map(Input::Picture))
             .or_else(|| Sizes::parse(text).map(Input::Sizes))
             .or_else(|| OwnedEncoding::parse(text).map(Input::Encoding))
-            .or_else(|| Demand::parse(text).map(Input::Demand))
+            .or_else(|| PrefixCase::parse(text).map(Input::Prefix))
     }
 
-    /// Who says what this case must do.
-    pub fn judge(&self) -> &'static str {
-        let by_rust = match self {
+    /// The number of bytes of all its buffers.
+    pub fn byte_count(&self) -> usize {
+        match self {
+            Input::Call(case) => case.source.len() + case.before.len(),
+            Input::Picture(case) => case.body.len() + case.work.len() + case.image.len(),
+            Input::Sizes(_) => 0,
+            Input::Encoding(case) => {
+                let sources: usize = case.sources.slices().iter().map(|(slice, _)| slice.len()).sum();
+                sources + case.before.len()
+            }
+            Input::Prefix(case) => case.samples.len() + case.following.len() + case.before.len(),
+        }
+    }
+
+    /// Whether there is such a case: the prefix theorem has conditions, a call has none.
+    pub fn is_valid(&self) -> bool {
+        match self {
+            Input::Prefix(case) => case.is_valid(),
+            _ => true,
+        }
+    }
+
+    /// The reference of this case, as a report names it.
+    pub fn reference(&self) -> &'static str {
+        let inside = match self {
             Input::Call(case) => case.view().refused_at_entry().is_none(),
             Input::Picture(case) => case.view().refused_outside().is_none(),
             Input::Sizes(_) => false,
             Input::Encoding(case) => case.is_inside(),
-            Input::Demand(_) => return "the model",
+            Input::Prefix(_) => return "the model",
         };
-        if by_rust {
-            "the Rust"
+        if inside {
+            "IronRDP"
         } else {
-            "document 01"
+            "FORMAT"
         }
     }
 }
@@ -70,7 +92,7 @@ impl fmt::Display for Input {
             Input::Picture(case) => case.fmt(f),
             Input::Sizes(case) => case.fmt(f),
             Input::Encoding(case) => case.fmt(f),
-            Input::Demand(case) => case.fmt(f),
+            Input::Prefix(case) => case.fmt(f),
         }
     }
 }

@@ -1,17 +1,21 @@
-//! Compares a plane unpacker, a plane packer, a picture decoder and picture encoders with IronRDP inside document 01's domain and with
-//! document 01 outside it, byte by byte, on slices whose surroundings are watched; and both pairs of plane coders, IronRDP's
-//! and the library's, with the prefix theorem (demand 3).
+//! Compares a plane unpacker, a plane packer, a picture decoder and picture encoders with IronRDP, byte by byte, on buffers in guarded
+//! pages; and both pairs of plane coders, IronRDP's and the library's, with the prefix theorem (FORMAT 9).
+//!
+//! The domain of a function is the set of its inputs for which IronRDP is the reference. Outside it, where IronRDP has no such checks,
+//! docs/FORMAT.md is the reference, which the comments here cite as `FORMAT 8`. README.md lists both.
 
+pub mod arguments;
 pub mod bytes;
 pub mod case;
 pub mod check;
-pub mod demand;
 pub mod encoding;
+pub mod guarded;
 pub mod input;
-pub mod lend;
 pub mod packing;
 pub mod picture;
 pub mod planes;
+pub mod prefix;
+pub mod report;
 pub mod rng;
 pub mod shrink;
 pub mod strings;

@@ -6,9 +6,9 @@ use crate::rng::Rng;
 /// Widths around which a segment's counts change: 15 raw bytes, runs of 16, 32 and 47, and the longest side.
 pub const WIDTHS: [usize; 22] = [1, 2, 3, 4, 14, 15, 16, 17, 18, 30, 31, 32, 33, 46, 47, 48, 49, 62, 63, 64, 65, 95];
 
-/// What a plane looks like.
+/// The kinds of planes that are made.
 #[derive(Clone, Copy, Debug)]
-pub enum Look {
+pub enum PlaneKind {
     Noise,
     FewValues,
     Runs,
@@ -17,25 +17,31 @@ pub enum Look {
     RowsAlike,
 }
 
-pub const LOOKS: [Look; 6] =
-    [Look::Noise, Look::FewValues, Look::Runs, Look::Gradient, Look::FlatPage, Look::RowsAlike];
+pub const PLANE_KINDS: [PlaneKind; 6] = [
+    PlaneKind::Noise,
+    PlaneKind::FewValues,
+    PlaneKind::Runs,
+    PlaneKind::Gradient,
+    PlaneKind::FlatPage,
+    PlaneKind::RowsAlike,
+];
 
-/// Width times height samples of this look.
-pub fn samples(rng: &mut Rng, look: Look, width: usize, height: usize) -> Vec<u8> {
+/// Width times height samples of this kind.
+pub fn samples(rng: &mut Rng, plane_kind: PlaneKind, width: usize, height: usize) -> Vec<u8> {
     let count = width * height;
-    match look {
-        Look::Noise => rng.bytes(count),
-        Look::FewValues => {
+    match plane_kind {
+        PlaneKind::Noise => rng.bytes(count),
+        PlaneKind::FewValues => {
             let values = rng.bytes(3);
             (0..count).map(|_| *rng.pick(&values)).collect()
         }
-        Look::Runs => runs(rng, count),
-        Look::Gradient => {
+        PlaneKind::Runs => runs(rng, count),
+        PlaneKind::Gradient => {
             let (across, down) = (rng.within(0, 5), rng.within(0, 5));
             (0..count).map(|at| (at % width * across / 4 + at / width * down) as u8).collect()
         }
-        Look::FlatPage => flat_page(rng, width, height),
-        Look::RowsAlike => rows_alike(rng, width, height),
+        PlaneKind::FlatPage => flat_page(rng, width, height),
+        PlaneKind::RowsAlike => rows_alike(rng, width, height),
     }
 }
 
@@ -107,7 +113,7 @@ pub fn sides(rng: &mut Rng) -> (usize, usize) {
     }
 }
 
-/// Sides of which one at least is refused.
+/// Sides of which at least one is refused.
 pub fn sides_outside(rng: &mut Rng) -> (usize, usize) {
     let (width, height) = sides(rng);
     let wrong = match rng.below(4) {

@@ -1,11 +1,11 @@
 //! Makes a case that differs smaller, as long as it still differs.
 
 mod call;
-mod demand;
 mod encoding;
 mod pack;
 mod picture;
 mod plane;
+mod prefix;
 mod rows;
 mod unpack;
 
@@ -13,24 +13,49 @@ use crate::case::Operation;
 use crate::check::{Comparer, Difference};
 use crate::input::Input;
 use std::ops::Range;
-use std::time::{Duration, Instant};
 
-/// A large plane has many smaller ones; after this time the smallest so far has to do.
-const LONGEST: Duration = Duration::from_secs(30);
+/// What one call of `shrink` may cost. Trying a case costs `PER_CASE`, and 1 for each byte of its buffers. So the limit is about the
+/// same time for small cases and for large ones, and what is found does not depend on the machine.
+///
+/// Of the tests here `refusal_12_by_a_product_that_wraps` costs most, 1,766,525,490 for 23,846 cases, then
+/// `an_images_length_that_wraps` with 375,781,866 and `one_colour_wrong` with 231,713,560; all others cost less than 3 million.
+/// tests/support/mod.rs asserts that none costs more than a quarter of the limit.
+pub const LIMIT: u64 = 10_000_000_000;
+const PER_CASE: u64 = 500;
 
-/// The smallest case that this finds to differ, in whatever way.
+/// The smallest case that this finds to differ, in whatever way, within `LIMIT`.
 pub fn shrink(comparer: &mut Comparer, found: Box<Difference>) -> Box<Difference> {
-    let end = Instant::now() + LONGEST;
+    shrink_within(comparer, found, LIMIT).0
+}
+
+/// The same with another limit, and what it cost. Where the limit is reached, the smallest case so far is returned.
+pub fn shrink_within(comparer: &mut Comparer, found: Box<Difference>, limit: u64) -> (Box<Difference>, u64) {
+    let mut budget = Budget { left: limit };
     let mut best = found;
-    while let Some(smaller) = smaller_difference(comparer, &best.case, end) {
+    while let Some(smaller) = smaller_difference(comparer, &best.case, &mut budget) {
         best = smaller;
     }
-    best
+    (best, limit - budget.left)
+}
+
+/// What is left of the limit.
+struct Budget {
+    left: u64,
+}
+
+impl Budget {
+    /// Pays for a case, if enough is left.
+    fn pays_for(&mut self, case: &Input) -> bool {
+        let left = self.left.checked_sub(PER_CASE + case.byte_count() as u64);
+        self.left = left.unwrap_or(self.left);
+        left.is_some()
+    }
 }
 
 /// The first smaller case that differs too.
-fn smaller_difference(comparer: &mut Comparer, case: &Input, end: Instant) -> Option<Box<Difference>> {
-    smaller_inputs(case).take_while(|_| Instant::now() < end).find_map(|smaller| comparer.look(&smaller).err())
+fn smaller_difference(comparer: &mut Comparer, case: &Input, budget: &mut Budget) -> Option<Box<Difference>> {
+    let tried = smaller_inputs(case).take_while(|smaller| budget.pays_for(smaller));
+    tried.filter(Input::is_valid).find_map(|smaller| comparer.check(&smaller).err())
 }
 
 /// Smaller cases of the same form, the boldest first.
@@ -43,7 +68,7 @@ fn smaller_inputs(input: &Input) -> Box<dyn Iterator<Item = Input> + '_> {
         Input::Picture(case) => Box::new(picture::smaller(case).map(Input::Picture)),
         Input::Sizes(case) => Box::new(picture::smaller_sizes(case).map(Input::Sizes)),
         Input::Encoding(case) => Box::new(encoding::smaller(case).map(Input::Encoding)),
-        Input::Demand(case) => Box::new(demand::smaller(case).map(Input::Demand)),
+        Input::Prefix(case) => Box::new(prefix::smaller(case).map(Input::Prefix)),
     }
 }
 
@@ -53,7 +78,7 @@ fn lower(value: usize) -> impl Iterator<Item = usize> {
     [0, 1].into_iter().chain(steps.map(move |step| value - step)).filter(move |&candidate| candidate < value)
 }
 
-/// Something is cut into at most so many pieces, so that what is long loses pieces of some size first.
+/// Something is divided into at most so many pieces, so that what is long loses long pieces first.
 const PIECES: usize = 512;
 
 /// Pieces of what is so long: first all of it, then halves, at last single ones.

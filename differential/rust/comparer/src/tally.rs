@@ -1,4 +1,4 @@
-//! How many cases of each kind were compared, and how they came out.
+//! How many cases of each kind were compared, and the answers that were required.
 
 use original::Answer;
 use std::fmt;
@@ -11,25 +11,26 @@ enum Part {
     Pictures,
     Sizes,
     Encoding,
-    Demand,
+    Prefix,
 }
 
-/// Who says what a case must do.
+/// What the library is compared with.
 #[derive(Clone, Copy, PartialEq, Eq)]
-pub enum Judge {
-    Rust,
-    /// Outside the domain.
-    Document,
-    /// Of the prefix theorem (demand 3).
+pub enum Reference {
+    /// Inside the domain.
+    IronRdp,
+    /// docs/FORMAT.md, outside the domain.
+    Format,
+    /// The model of the prefix theorem.
     Model,
 }
 
-impl Judge {
-    pub fn rust_if(inside: bool) -> Judge {
+impl Reference {
+    pub fn ironrdp_if(inside: bool) -> Reference {
         if inside {
-            Judge::Rust
+            Reference::IronRdp
         } else {
-            Judge::Document
+            Reference::Format
         }
     }
 }
@@ -42,16 +43,16 @@ pub enum Kind {
     Rooms,
     Table,
     Largest,
-    Whole,
+    Complete,
     Following,
-    Cut,
+    Truncated,
     Damaged,
     Segments,
     OpeningRuns,
     Noise,
     Sides,
     SmallPlanes,
-    TellingRows,
+    BoundaryRows,
     Sources,
     PackTable,
     LongSides,
@@ -66,14 +67,14 @@ pub enum Kind {
     PictureWidths,
     PictureLengths,
     PictureOrder,
-    PictureCut,
+    PictureTruncated,
     PictureDamaged,
     PictureColours,
     PictureLongSides,
     PictureLargest,
     RandomPictures,
     RandomFollowing,
-    RandomCut,
+    RandomTruncated,
     RandomDamaged,
     RandomLengths,
     RandomBodies,
@@ -85,36 +86,36 @@ pub enum Kind {
     EncodingSources,
     EncodingPixels,
     EncodingSmall,
-    EncodingTelling,
+    EncodingBoundary,
     EncodingRooms,
     EncodingLongSides,
     EncodingLargest,
     RandomEncodings,
     RandomEncodingSources,
     RandomEncodingSides,
-    DemandSmall,
-    DemandTelling,
-    DemandLong,
-    DemandRandom,
+    PrefixSmall,
+    PrefixBoundary,
+    PrefixLong,
+    PrefixRandom,
 }
 
 /// Each kind with its part and its line of the report, in the order of the enum.
 const KINDS: [(Kind, Part, &str); 59] = [
     (Kind::Short, Part::Unpacking, "all bodies of up to 2 bytes"),
-    (Kind::Alphabet, Part::Unpacking, "bodies of 3 to 5 bytes of a telling alphabet"),
+    (Kind::Alphabet, Part::Unpacking, "bodies of 3 to 5 bytes, all forms of control bytes"),
     (Kind::Rooms, Part::Unpacking, "every destination length around width x height"),
     (Kind::Table, Part::Unpacking, "a table of sides, most of them refused"),
     (Kind::Largest, Part::Unpacking, "planes of 8192 x 8192"),
-    (Kind::Whole, Part::Unpacking, "planes packed by the Rust, whole"),
+    (Kind::Complete, Part::Unpacking, "planes packed by IronRDP, complete"),
     (Kind::Following, Part::Unpacking, "packed planes with bytes following"),
-    (Kind::Cut, Part::Unpacking, "packed planes, cut"),
+    (Kind::Truncated, Part::Unpacking, "packed planes, truncated"),
     (Kind::Damaged, Part::Unpacking, "packed planes, 1 to 3 bytes damaged"),
     (Kind::Segments, Part::Unpacking, "bodies made segment by segment"),
     (Kind::OpeningRuns, Part::Unpacking, "the same, rows opened by a run without raw bytes"),
     (Kind::Noise, Part::Unpacking, "bodies of random bytes"),
     (Kind::Sides, Part::Unpacking, "random sides outside the domain"),
     (Kind::SmallPlanes, Part::Packing, "all planes of up to 12 samples, or 6 of four values"),
-    (Kind::TellingRows, Part::Packing, "rows of telling runs and literals"),
+    (Kind::BoundaryRows, Part::Packing, "rows of runs and literals of boundary lengths"),
     (Kind::Sources, Part::Packing, "sources longer and shorter than the plane"),
     (Kind::PackTable, Part::Packing, "a table of sides, most of them refused"),
     (Kind::LongSides, Part::Packing, "sides of 8191 and 8192"),
@@ -122,58 +123,61 @@ const KINDS: [(Kind, Part, &str); 59] = [
     (Kind::RandomPlanes, Part::Packing, "random planes"),
     (Kind::RandomSources, Part::Packing, "random planes, sources longer or shorter"),
     (Kind::RandomSides, Part::Packing, "random sides outside the domain"),
-    (Kind::PictureExamples, Part::Pictures, "document 01's examples and the like"),
+    (Kind::PictureExamples, Part::Pictures, "the examples of FORMAT 10 and the like"),
     (Kind::PictureTable, Part::Pictures, "a table of sides, most of them refused"),
     (Kind::PictureLevels, Part::Pictures, "all loss levels, all definitions"),
     (Kind::PictureSides, Part::Pictures, "all sides of 1 to 9, all forms"),
     (Kind::PictureWidths, Part::Pictures, "all widths of 10 to 100"),
     (Kind::PictureLengths, Part::Pictures, "body, work area, image around their limits"),
     (Kind::PictureOrder, Part::Pictures, "several refusals at once"),
-    (Kind::PictureCut, Part::Pictures, "small RLE pictures, every cut"),
+    (Kind::PictureTruncated, Part::Pictures, "small RLE pictures, every prefix"),
     (Kind::PictureDamaged, Part::Pictures, "small RLE pictures, every byte changed"),
     (Kind::PictureColours, Part::Pictures, "every Y, Co, Cg at every level"),
     (Kind::PictureLongSides, Part::Pictures, "sides of 8191 and 8192"),
     (Kind::PictureLargest, Part::Pictures, "pictures of 8192 x 8192"),
-    (Kind::RandomPictures, Part::Pictures, "random pictures, whole"),
+    (Kind::RandomPictures, Part::Pictures, "random pictures, complete"),
     (Kind::RandomFollowing, Part::Pictures, "random pictures with bytes following"),
-    (Kind::RandomCut, Part::Pictures, "random pictures, cut"),
+    (Kind::RandomTruncated, Part::Pictures, "random pictures, truncated"),
     (Kind::RandomDamaged, Part::Pictures, "random pictures, 1 to 3 bytes damaged"),
-    (Kind::RandomLengths, Part::Pictures, "random pictures, slices of other lengths"),
+    (Kind::RandomLengths, Part::Pictures, "random pictures, buffers of other lengths"),
     (Kind::RandomBodies, Part::Pictures, "bodies made segment by segment or of noise"),
     (Kind::RandomRefused, Part::Pictures, "random sides, levels, definitions outside the domain"),
     (Kind::SizesTable, Part::Sizes, "a table of sides"),
-    (Kind::EncodingExamples, Part::Encoding, "small inputs that document 01 decides"),
+    (Kind::EncodingExamples, Part::Encoding, "small inputs with known answers"),
     (Kind::EncodingTable, Part::Encoding, "a table of sides, most of them refused"),
     (Kind::EncodingOrder, Part::Encoding, "several refusals at once"),
     (Kind::EncodingSources, Part::Encoding, "each source short, exact, long"),
-    (Kind::EncodingPixels, Part::Encoding, "slices of pixels of every length"),
+    (Kind::EncodingPixels, Part::Encoding, "buffers of pixels of every length"),
     (Kind::EncodingSmall, Part::Encoding, "all pictures of up to 3 pixels, or 2 of four planes"),
-    (Kind::EncodingTelling, Part::Encoding, "rows of telling runs and literals"),
+    (Kind::EncodingBoundary, Part::Encoding, "rows of runs and literals of boundary lengths"),
     (Kind::EncodingRooms, Part::Encoding, "destinations around every segment's end"),
     (Kind::EncodingLongSides, Part::Encoding, "sides of 8191 and 8192"),
     (Kind::EncodingLargest, Part::Encoding, "pictures of 8192 x 8192"),
     (Kind::RandomEncodings, Part::Encoding, "random pictures"),
     (Kind::RandomEncodingSources, Part::Encoding, "random pictures, sources longer or shorter"),
     (Kind::RandomEncodingSides, Part::Encoding, "random sides outside the domain"),
-    (Kind::DemandSmall, Part::Demand, "all planes of up to 8 samples, every cut"),
-    (Kind::DemandTelling, Part::Demand, "rows of telling runs and literals"),
-    (Kind::DemandLong, Part::Demand, "sides of 8191 and 8192"),
-    (Kind::DemandRandom, Part::Demand, "random planes"),
+    (Kind::PrefixSmall, Part::Prefix, "all planes of up to 8 samples, every prefix"),
+    (Kind::PrefixBoundary, Part::Prefix, "rows of runs and literals of boundary lengths"),
+    (Kind::PrefixLong, Part::Prefix, "sides of 8191 and 8192"),
+    (Kind::PrefixRandom, Part::Prefix, "random planes"),
 ];
 
-/// How the cases of a part came out.
+/// The answers that were required in a part.
 #[derive(Clone, Default)]
 struct Answers {
     done: u64,
     /// By the number of the refusal: inside the domain, and outside it.
     refused: [u64; 13],
     refused_outside: [u64; 13],
-    /// What document 01 has done outside the domain.
+    /// Outside the domain, and not refused.
     done_outside: u64,
 }
 
 /// `by 7: 3, by 8: 0` and so on.
 fn listed(refused: &[u64; 13], numbers: &[usize]) -> String {
+    if numbers.is_empty() {
+        return "none".to_owned();
+    }
     let texts: Vec<_> = numbers.iter().map(|&number| format!("by {number}: {}", refused[number])).collect();
     texts.join(", ")
 }
@@ -191,7 +195,7 @@ impl Answers {
         self.inside() + self.outside()
     }
 
-    /// The same in one line, without the refusals that did not come.
+    /// The same in one line, with only the refusals that occurred.
     fn line(&self) -> String {
         let side = |name: &str, done: u64, refused: &[u64; 13]| {
             let numbers: Vec<usize> = (1..refused.len()).filter(|&number| refused[number] > 0).collect();
@@ -205,11 +209,12 @@ impl Answers {
         format!("{inside}; {}", side("outside", self.done_outside, &self.refused_outside))
     }
 
-    /// The lines on how they came out: what a done case has done, the refusals inside the domain and outside it.
+    /// The lines of these answers: `done` is the word for a case that is not refused, then the refusals inside the domain and
+    /// outside it.
     fn write(&self, f: &mut fmt::Formatter<'_>, done: &str, inside: &[usize], outside: &[usize]) -> fmt::Result {
-        writeln!(f, "  inside the domain, held to the Rust: {}", self.inside())?;
+        writeln!(f, "  inside the domain, compared with IronRDP: {}", self.inside())?;
         writeln!(f, "    ({done} {}, refused {})", self.done, listed(&self.refused, inside))?;
-        writeln!(f, "  outside the domain, held to document 01: {}", self.outside())?;
+        writeln!(f, "  outside the domain, compared with FORMAT: {}", self.outside())?;
         match self.done_outside {
             0 => writeln!(f, "    (refused {})", listed(&self.refused_outside, outside)),
             count => writeln!(f, "    ({done} {count}, refused {})", listed(&self.refused_outside, outside)),
@@ -232,12 +237,12 @@ impl Default for Tally {
 }
 
 impl Tally {
-    pub fn count(&mut self, kind: Kind, judge: Judge, wanted: &Answer) {
+    pub fn count(&mut self, kind: Kind, reference: Reference, wanted: &Answer) {
         self.kinds[kind as usize] += 1;
         let answers = &mut self.parts[KINDS[kind as usize].1 as usize];
-        match (wanted, judge) {
-            (Answer::Refused(number), Judge::Document) => answers.refused_outside[usize::from(*number)] += 1,
-            (_, Judge::Document) => answers.done_outside += 1,
+        match (wanted, reference) {
+            (Answer::Refused(number), Reference::Format) => answers.refused_outside[usize::from(*number)] += 1,
+            (_, Reference::Format) => answers.done_outside += 1,
             (Answer::Refused(number), _) => answers.refused[usize::from(*number)] += 1,
             _ => answers.done += 1,
         }
@@ -247,8 +252,8 @@ impl Tally {
         self.kinds.iter().sum()
     }
 
-    /// How the cases of this kind's part came out, in a line.
-    pub fn came_out(&self, kind: Kind) -> String {
+    /// The answers that were required in this kind's part, in a line.
+    pub fn answers_line(&self, kind: Kind) -> String {
         self.parts[KINDS[kind as usize].1 as usize].line()
     }
 
@@ -263,7 +268,7 @@ impl Tally {
 
 impl fmt::Display for Tally {
     fn fmt(&self, f: &mut fmt::Formatter<'_>) -> fmt::Result {
-        let [unpacking, packing, pictures, sizes, encoding, demand] = &self.parts;
+        let [unpacking, packing, pictures, sizes, encoding, prefix] = &self.parts;
         writeln!(f, "plane unpacking: {}", unpacking.all())?;
         self.write_kinds(f, Part::Unpacking)?;
         unpacking.write(f, "read", &[7, 8, 9], &[1, 2, 10])?;
@@ -273,14 +278,14 @@ impl fmt::Display for Tally {
         writeln!(f, "picture unpacking: {}", pictures.all())?;
         self.write_kinds(f, Part::Pictures)?;
         pictures.write(f, "made", &[4, 7, 8, 9], &[1, 2, 3, 4, 5, 6])?;
-        writeln!(f, "sizes of work area and image, held to formulas: {}", sizes.all())?;
+        writeln!(f, "sizes of work area and image, compared with formulas: {}", sizes.all())?;
         writeln!(f, "picture packing: {}", encoding.all())?;
         self.write_kinds(f, Part::Encoding)?;
         encoding.write(f, "written", &[12], &[1, 2, 11, 12])?;
-        writeln!(f, "  unpacked again by the Rust, all that was written: {}", self.unpacked_again)?;
-        writeln!(f, "demand 3, packed and unpacked again: {}", demand.all())?;
-        self.write_kinds(f, Part::Demand)?;
-        writeln!(f, "  both pairs held to a model of document 01's rules: {}", demand.all())?;
-        write!(f, "    (whole {}, cut and refused by 7: {})", demand.done, demand.refused[7])
+        writeln!(f, "  unpacked again by IronRDP: {}", self.unpacked_again)?;
+        writeln!(f, "prefix theorem, packed and unpacked again: {}", prefix.all())?;
+        self.write_kinds(f, Part::Prefix)?;
+        writeln!(f, "  IronRDP and rdp6 compared with a model of FORMAT 3 to 5: {}", prefix.all())?;
+        write!(f, "    (complete {}, prefixes refused by 7: {})", prefix.done, prefix.refused[7])
     }
 }

@@ -8,7 +8,7 @@ use comparer::picture::fixed;
 use comparer::picture::random::Random;
 use comparer::picture::Form;
 use comparer::Library;
-use support::decoder::{least_plane, pictures, unpacked, Call, Decoder, Right};
+use support::decoder::{min_plane, pictures, unpacked, Call, Decoder, Right};
 use support::{Search, RIGHT_LIBRARY};
 
 const SEARCH: Search = Search {
@@ -31,7 +31,7 @@ fn a_right_decoder_has_no_difference() {
     SEARCH.finds_nothing(with::<Right>());
 }
 
-/// A decoder that does some steps otherwise, and the smallest input that shows it.
+/// A decoder that does some steps differently, and the smallest input that shows it.
 macro_rules! wrong {
     ($name:ident, $smallest:literal, { $($steps:tt)* }) => {
         #[test]
@@ -48,31 +48,31 @@ macro_rules! wrong {
 // Colours.
 
 wrong!(chroma_widened_before_the_multiplication, "iu 1 1 0 0 2:0 004000 - EEEEEE", {
-    fn chroma(level: u8, byte: u8) -> i32 {
+    fn chroma(level: u32, byte: u8) -> i32 {
         i32::from(byte as i8) << (level - 1)
     }
 });
 
 wrong!(the_sign_forgotten, "iu 1 1 0 0 2:0 004000 - EEEEEE", {
-    fn chroma(level: u8, byte: u8) -> i32 {
+    fn chroma(level: u32, byte: u8) -> i32 {
         i32::from(byte << (level - 1))
     }
 });
 
 wrong!(the_level_one_too_high, "iu 1 1 0 0 1:0 000001 - EEEEEE", {
-    fn chroma(level: u8, byte: u8) -> i32 {
+    fn chroma(level: u32, byte: u8) -> i32 {
         i32::from((byte << level) as i8)
     }
 });
 
 wrong!(the_level_one_too_low, "iu 1 1 0 0 1:0 000001 - EEEEEE", {
-    fn chroma(level: u8, byte: u8) -> i32 {
+    fn chroma(level: u32, byte: u8) -> i32 {
         i32::from((byte << (level - 1)) as i8) / 2
     }
 });
 
 wrong!(the_level_without_effect, "iu 1 1 0 0 2:0 000100 - EEEEEE", {
-    fn chroma(_level: u8, byte: u8) -> i32 {
+    fn chroma(_level: u32, byte: u8) -> i32 {
         i32::from(byte as i8)
     }
 });
@@ -202,7 +202,7 @@ wrong!(chroma_rows_as_long_as_the_pictures, "iu 2 3 0 0 1:1 00*8,0100 - EE*18", 
     }
 });
 
-wrong!(argb_subsampled_if_that_is_said, "iu 2 1 0 0 argb:0:1 00*4 - -", {
+wrong!(argb_subsampled_by_the_flag, "iu 2 1 0 0 argb:0:1 00*4 - -", {
     fn is_subsampled(form: Form) -> bool {
         form.subsampled
     }
@@ -280,10 +280,10 @@ wrong!(a_plane_started_a_byte_early, "iu 1 1 1 0 argb 100100 EEEEEE EEEEEE", {
     }
 });
 
-wrong!(a_plane_started_behind_the_least_size, "iu 1 1 1 0 argb 100100 EEEEEE EEEEEE", {
+wrong!(a_plane_started_behind_the_minimum_size, "iu 1 1 1 0 argb 100100 EEEEEE EEEEEE", {
     fn unpack_plane(call: &mut Call, from: usize, to: usize, sides: (usize, usize)) -> Result<usize, i64> {
         Right::unpack_plane(call, from, to, sides)?;
-        Ok(least_plane(sides))
+        Ok(min_plane(sides))
     }
 });
 
@@ -333,7 +333,7 @@ wrong!(a_refused_third_plane_taken_back, "iu 2 1 1 0 argb 2000002000001000 EE*6 
         let from = Self::offsets(call)[2];
         let earlier = call.work.bytes()[from..].to_vec();
         let outcome = Right::unpack_planes(call);
-        // Only if the two planes before it are whole.
+        // Only if the two planes before it are complete.
         let body = call.body.bytes().to_vec();
         let (full, chroma) = ((call.width, call.height), Self::chroma_sides(call));
         let planes = [full, full, chroma].into_iter().skip(usize::from(!call.form.alpha));
@@ -369,7 +369,7 @@ wrong!(bytes_behind_the_planes_refused, "iu 1 1 1 0 argb 10001000100000 EEEEEE E
 wrong!(a_raw_body_with_bytes_behind_it_refused, "iu 1 1 0 0 argb 00*4 - -", {
     fn tests(call: &Call) -> [bool; 6] {
         let mut tests = Right::tests(call);
-        tests[3] |= !call.form.rle && call.body.len > Self::least_body(call);
+        tests[3] |= !call.form.rle && call.body.len > Self::min_body(call);
         tests
     }
 });
@@ -573,13 +573,13 @@ wrong!(the_body_read_before_refusal_6, "iu 1 1 1 0 argb 000000 EEEEEE -", {
 // Their limits.
 
 wrong!(sides_of_8193_taken, "iu 1 8193 0 0 argb - - -", {
-    fn most_side() -> usize {
+    fn max_side() -> usize {
         MAX_SIDE + 1
     }
 });
 
 wrong!(sides_of_8192_refused, "iu 1 8192 0 0 argb - - -", {
-    fn most_side() -> usize {
+    fn max_side() -> usize {
         MAX_SIDE - 1
     }
 });
@@ -614,7 +614,7 @@ wrong!(argb_refused_by_its_level, "iu 1 1 0 0 argb:8:0 - - -", {
     }
 });
 
-wrong!(other_definitions_taken_for_aycocg, "iu 1 1 0 0 2:1:0 - - -", {
+wrong!(unknown_definitions_taken_for_aycocg, "iu 1 1 0 0 2:1:0 - - -", {
     fn level_refused(form: Form) -> bool {
         form.definition != ARGB && (form.level == 0 || form.level > 7)
     }
@@ -626,9 +626,39 @@ wrong!(definition_255_taken, "iu 1 1 0 0 255:0:0 - - -", {
     }
 });
 
+wrong!(the_level_truncated_to_a_byte, "iu 1 1 0 0 257:0 - - -", {
+    fn level_refused(form: Form) -> bool {
+        Right::level_refused(Form { level: form.level & 0xFF, ..form })
+    }
+});
+
+wrong!(the_level_truncated_to_two_bytes, "iu 1 1 0 0 65537:0 - - -", {
+    fn level_refused(form: Form) -> bool {
+        Right::level_refused(Form { level: form.level & 0xFFFF, ..form })
+    }
+});
+
+wrong!(the_level_signed, "iu 1 1 0 0 2147483648:0 - - -", {
+    fn level_refused(form: Form) -> bool {
+        form.definition > AYCOCG || form.definition == AYCOCG && (form.level == 0 || form.level as i32 > 7)
+    }
+});
+
+wrong!(the_definition_truncated_to_a_byte, "iu 1 1 0 0 256:0:0 - - -", {
+    fn level_refused(form: Form) -> bool {
+        Right::level_refused(Form { definition: form.definition & 0xFF, ..form })
+    }
+});
+
+wrong!(the_definition_truncated_to_two_bytes, "iu 1 1 0 0 65536:0:0 - - -", {
+    fn level_refused(form: Form) -> bool {
+        Right::level_refused(Form { definition: form.definition & 0xFFFF, ..form })
+    }
+});
+
 wrong!(a_body_that_is_one_byte_short_taken, "iu 1 1 0 0 argb 0000 - -", {
-    fn least_body(call: &Call) -> usize {
-        Right::least_body(call).saturating_sub(1)
+    fn min_body(call: &Call) -> usize {
+        Right::min_body(call).saturating_sub(1)
     }
 
     fn planes(call: &Call) -> Vec<u8> {
@@ -640,67 +670,67 @@ wrong!(a_body_that_is_one_byte_short_taken, "iu 1 1 0 0 argb 0000 - -", {
     }
 });
 
-wrong!(a_body_of_its_least_size_refused, "iu 1 1 0 0 argb 000000 - -", {
-    fn least_body(call: &Call) -> usize {
-        Right::least_body(call).saturating_add(1)
+wrong!(a_body_of_its_minimum_size_refused, "iu 1 1 0 0 argb 000000 - -", {
+    fn min_body(call: &Call) -> usize {
+        Right::min_body(call).saturating_add(1)
     }
 });
 
-wrong!(the_least_rle_body_by_48, "iu 48 1 1 0 argb 000000 - -", {
-    fn least_rle_body(call: &Call) -> usize {
+wrong!(the_minimum_rle_body_by_48, "iu 48 1 1 0 argb 000000 - -", {
+    fn min_rle_body(call: &Call) -> usize {
         let plane = |(width, height): (usize, usize)| height.saturating_mul(width.div_ceil(48));
         let full = plane((call.width, call.height)).saturating_mul(1 + usize::from(call.form.alpha));
         full.saturating_add(plane(Self::chroma_sides(call)).saturating_mul(2))
     }
 });
 
-wrong!(the_least_rle_body_without_alpha, "iu 1 1 1 1 argb 000000 - -", {
-    fn least_rle_body(call: &Call) -> usize {
-        let chroma = least_plane(Self::chroma_sides(call)).saturating_mul(2);
-        least_plane((call.width, call.height)).saturating_add(chroma)
+wrong!(the_minimum_rle_body_without_alpha, "iu 1 1 1 1 argb 000000 - -", {
+    fn min_rle_body(call: &Call) -> usize {
+        let chroma = min_plane(Self::chroma_sides(call)).saturating_mul(2);
+        min_plane((call.width, call.height)).saturating_add(chroma)
     }
 });
 
-wrong!(the_least_rle_body_of_full_planes, "iu 1 2 1 0 1:1 00*4 - -", {
-    fn least_rle_body(call: &Call) -> usize {
-        least_plane((call.width, call.height)).saturating_mul(3 + usize::from(call.form.alpha))
+wrong!(the_minimum_rle_body_of_full_planes, "iu 1 2 1 0 1:1 00*4 - -", {
+    fn min_rle_body(call: &Call) -> usize {
+        min_plane((call.width, call.height)).saturating_mul(3 + usize::from(call.form.alpha))
     }
 });
 
-wrong!(the_least_rle_body_of_the_samples, "iu 1 2 1 0 argb 000000 - -", {
-    fn least_rle_body(call: &Call) -> usize {
+wrong!(the_minimum_rle_body_of_the_samples, "iu 1 2 1 0 argb 000000 - -", {
+    fn min_rle_body(call: &Call) -> usize {
         let plane = |(width, height): (usize, usize)| width.saturating_mul(height).div_ceil(47);
         let full = plane((call.width, call.height)).saturating_mul(1 + usize::from(call.form.alpha));
         full.saturating_add(plane(Self::chroma_sides(call)).saturating_mul(2))
     }
 });
 
-wrong!(the_least_rle_body_not_asked, "iu 1 1 1 0 argb - - -", {
-    fn least_rle_body(_call: &Call) -> usize {
+wrong!(the_minimum_rle_body_not_asked, "iu 1 1 1 0 argb - - -", {
+    fn min_rle_body(_call: &Call) -> usize {
         0
     }
 });
 
 wrong!(a_work_area_that_is_one_byte_short_taken, "iu 1 1 1 0 argb 000000 EEEE -", {
-    fn least_work(call: &Call) -> usize {
-        Right::least_work(call).saturating_sub(1)
+    fn min_work(call: &Call) -> usize {
+        Right::min_work(call).saturating_sub(1)
     }
 });
 
 wrong!(a_work_area_that_is_exact_refused, "iu 1 1 1 0 argb 000000 EEEEEE -", {
-    fn least_work(call: &Call) -> usize {
-        Right::least_work(call).saturating_add(usize::from(call.form.rle))
+    fn min_work(call: &Call) -> usize {
+        Right::min_work(call).saturating_add(usize::from(call.form.rle))
     }
 });
 
 wrong!(a_work_area_asked_of_a_raw_picture, "iu 1 1 0 0 argb 000000 - -", {
-    fn least_work(call: &Call) -> usize {
+    fn min_work(call: &Call) -> usize {
         Self::colour_len(call)
     }
 });
 
 wrong!(a_work_area_of_three_full_planes_asked, "iu 2 1 1 0 1:1 000000 EE*4 -", {
-    fn least_work(call: &Call) -> usize {
+    fn min_work(call: &Call) -> usize {
         if call.form.rle {
             call.full().saturating_mul(3)
         } else {
@@ -710,37 +740,37 @@ wrong!(a_work_area_of_three_full_planes_asked, "iu 2 1 1 0 1:1 000000 EE*4 -", {
 });
 
 wrong!(a_work_area_of_four_planes_asked_with_alpha, "iu 1 1 1 1 argb 00*4 EEEEEE -", {
-    fn least_work(call: &Call) -> usize {
+    fn min_work(call: &Call) -> usize {
         let alpha = if call.form.rle { call.alpha_len() } else { 0 };
-        Right::least_work(call).saturating_add(alpha)
+        Right::min_work(call).saturating_add(alpha)
     }
 });
 
 wrong!(an_image_that_is_one_byte_short_taken, "iu 1 1 0 0 argb 000000 - EEEE", {
-    fn least_image(call: &Call) -> usize {
-        Right::least_image(call).saturating_sub(1)
+    fn min_image(call: &Call) -> usize {
+        Right::min_image(call).saturating_sub(1)
     }
 
     fn write_image(call: &mut Call) {
-        if call.image.len >= Right::least_image(call) {
+        if call.image.len >= Right::min_image(call) {
             Right::write_image(call);
         }
     }
 });
 
 wrong!(an_image_that_is_exact_refused, "iu 1 1 0 0 argb 000000 - EEEEEE", {
-    fn least_image(call: &Call) -> usize {
-        Right::least_image(call).saturating_add(1)
+    fn min_image(call: &Call) -> usize {
+        Right::min_image(call).saturating_add(1)
     }
 });
 
 wrong!(an_images_length_that_wraps, "iu 7282 3 0 0 argb 00*65664 - EEEE", {
-    fn least_image(call: &Call) -> usize {
+    fn min_image(call: &Call) -> usize {
         usize::from(call.full().wrapping_mul(3) as u16)
     }
 
     fn write_image(call: &mut Call) {
-        if call.image.len >= Right::least_image(call) {
+        if call.image.len >= Right::min_image(call) {
             Right::write_image(call);
         }
     }
@@ -748,7 +778,7 @@ wrong!(an_images_length_that_wraps, "iu 7282 3 0 0 argb 00*65664 - EEEE", {
 
 // What random cases can hardly find, or are not asked to: the cases that are the same in every run must.
 
-/// The same, without the demand that random cases find it.
+/// The same, but random cases need not find it.
 macro_rules! wrong_in_fixed {
     ($name:ident, $smallest:literal, { $($steps:tt)* }) => {
         #[test]
@@ -757,8 +787,7 @@ macro_rules! wrong_in_fixed {
             impl Decoder for Wrong {
                 $($steps)*
             }
-            let difference = SEARCH.difference_in(with::<Wrong>()).expect("a mistake is found");
-            assert_eq!(difference.case.to_string(), $smallest, "{difference}");
+            SEARCH.finds_in_fixed(with::<Wrong>(), $smallest);
         }
     };
 }
@@ -771,43 +800,55 @@ wrong_in_fixed!(one_colour_wrong, "iu 1 1 0 0 1:0 C8B321 - EEEEEE", {
     }
 });
 
-wrong_in_fixed!(a_work_area_told_for_a_raw_picture, "is 1 1 0 0 0", {
-    fn work_size(_rle: bool, definition: u8, subsampled: bool, width: usize, height: usize) -> usize {
+wrong_in_fixed!(a_work_size_for_a_raw_picture, "is 1 1 0 0 0", {
+    fn work_size(_rle: bool, definition: u32, subsampled: bool, width: usize, height: usize) -> usize {
         Right::work_size(true, definition, subsampled, width, height)
     }
 });
 
-wrong_in_fixed!(a_work_area_of_full_planes_told, "is 1 2 1 1 1", {
-    fn work_size(rle: bool, definition: u8, _subsampled: bool, width: usize, height: usize) -> usize {
+wrong_in_fixed!(a_work_size_of_full_planes, "is 1 2 1 1 1", {
+    fn work_size(rle: bool, definition: u32, _subsampled: bool, width: usize, height: usize) -> usize {
         Right::work_size(rle, definition, false, width, height)
     }
 });
 
-wrong_in_fixed!(a_work_area_of_argb_subsampled, "is 1 2 1 0 1", {
-    fn work_size(rle: bool, _definition: u8, subsampled: bool, width: usize, height: usize) -> usize {
+wrong_in_fixed!(a_work_size_of_argb_subsampled, "is 1 2 1 0 1", {
+    fn work_size(rle: bool, _definition: u32, subsampled: bool, width: usize, height: usize) -> usize {
         Right::work_size(rle, AYCOCG, subsampled, width, height)
     }
 });
 
-wrong_in_fixed!(a_work_area_of_other_definitions_as_argb, "is 1 2 1 2 1", {
-    fn work_size(rle: bool, definition: u8, subsampled: bool, width: usize, height: usize) -> usize {
+wrong_in_fixed!(a_work_size_of_unknown_definitions_as_argb, "is 1 2 1 2 1", {
+    fn work_size(rle: bool, definition: u32, subsampled: bool, width: usize, height: usize) -> usize {
         Right::work_size(rle, definition, subsampled && definition == AYCOCG, width, height)
     }
 });
 
-wrong_in_fixed!(a_work_area_told_for_refused_sides, "is 8193 1 1 0 0", {
-    fn work_size(rle: bool, definition: u8, subsampled: bool, width: usize, height: usize) -> usize {
+wrong_in_fixed!(a_work_size_with_the_definition_truncated_to_a_byte, "is 1 2 1 256 1", {
+    fn work_size(rle: bool, definition: u32, subsampled: bool, width: usize, height: usize) -> usize {
+        Right::work_size(rle, definition & 0xFF, subsampled, width, height)
+    }
+});
+
+wrong_in_fixed!(a_work_size_with_the_definition_truncated_to_two_bytes, "is 1 2 1 65536 1", {
+    fn work_size(rle: bool, definition: u32, subsampled: bool, width: usize, height: usize) -> usize {
+        Right::work_size(rle, definition & 0xFFFF, subsampled, width, height)
+    }
+});
+
+wrong_in_fixed!(a_work_size_for_refused_sides, "is 8193 1 1 0 0", {
+    fn work_size(rle: bool, definition: u32, subsampled: bool, width: usize, height: usize) -> usize {
         Right::work_size(rle, definition, subsampled, width.min(MAX_SIDE), height)
     }
 });
 
-wrong_in_fixed!(an_image_told_for_refused_sides, "is 1 8193 0 0 0", {
+wrong_in_fixed!(an_image_size_for_refused_sides, "is 1 8193 0 0 0", {
     fn image_size(width: usize, height: usize) -> usize {
         width.saturating_mul(height).saturating_mul(3)
     }
 });
 
-wrong_in_fixed!(an_image_of_four_bytes_a_pixel_told, "is 1 1 0 0 0", {
+wrong_in_fixed!(an_image_size_of_four_bytes_a_pixel, "is 1 1 0 0 0", {
     fn image_size(width: usize, height: usize) -> usize {
         Right::image_size(width, height) / 3 * 4
     }

@@ -30,7 +30,7 @@ fn a_right_encoder_has_no_difference() {
     SEARCH.finds_nothing(with::<Right>());
 }
 
-/// An encoder that does some steps otherwise, and the smallest input that shows it.
+/// An encoder that does some steps differently, and the smallest input that shows it.
 macro_rules! wrong {
     ($name:ident, $smallest:literal, { $($steps:tt)* }) => {
         #[test]
@@ -265,7 +265,7 @@ wrong!(the_last_sample_left_out_of_a_raw_picture, "pb 1 1 0 0 00*4 EE*4", {
     }
 });
 
-wrong!(long_sources_written_whole, "pc 1 1 0 00 00 0000 none EE*4", {
+wrong!(long_sources_written_completely, "pc 1 1 0 00 00 0000 none EE*4", {
     fn used(call: &Call, channel: Channel) -> usize {
         match &call.given {
             _ if call.rle => call.full(),
@@ -482,10 +482,10 @@ wrong!(the_planes_before_the_refused_one_taken_back, "pb 1 1 1 0 00*4 EEEE", {
 wrong!(half_a_segment_before_refusal_12, "pb 1 1 1 0 00*4 EE", {
     fn write_plane(call: &mut Call, channel: Channel, at: usize) -> Result<usize, i64> {
         let (plane, sides) = (Self::plane(call, channel), (call.width, call.height));
-        let mut whole = vec![0; 2 * plane.len()];
-        let count = packed(&plane, &mut whole, sides)?;
+        let mut packing = vec![0; 2 * plane.len()];
+        let count = packed(&plane, &mut packing, sides)?;
         let fits = count.min(call.dst.len - at);
-        call.dst.bytes_mut()[at..at + fits].copy_from_slice(&whole[..fits]);
+        call.dst.bytes_mut()[at..at + fits].copy_from_slice(&packing[..fits]);
         if fits < count {
             Err(12)
         } else {
@@ -792,13 +792,13 @@ wrong!(the_decoders_number_for_a_short_source, "pc 1 1 0 - - - none -", {
 // Their limits.
 
 wrong!(sides_of_8193_taken, "pc 1 8193 0 - - - none -", {
-    fn most_side() -> usize {
+    fn max_side() -> usize {
         MAX_SIDE + 1
     }
 });
 
 wrong!(sides_of_8192_refused, "pc 1 8192 0 - - - none -", {
-    fn most_side() -> usize {
+    fn max_side() -> usize {
         MAX_SIDE - 1
     }
 });
@@ -887,7 +887,7 @@ wrong!(a_longer_source_of_a_raw_picture_refused, "pc 1 1 0 00 00 0000 none -", {
 });
 
 wrong!(half_a_pixel_counted, "pb 1 1 0 0 00 -", {
-    fn whole_pixels(len: usize) -> usize {
+    fn complete_pixels(len: usize) -> usize {
         len.div_ceil(4)
     }
 });
@@ -902,13 +902,13 @@ wrong!(a_pixel_without_its_alpha_counted, "pb 1 1 0 0 000000 -", {
 });
 
 wrong!(pixels_of_three_bytes_counted, "pb 1 1 0 0 000000 -", {
-    fn whole_pixels(len: usize) -> usize {
+    fn complete_pixels(len: usize) -> usize {
         len / 3
     }
 });
 
 wrong!(bytes_counted_for_pixels, "pb 1 1 0 0 00 -", {
-    fn whole_pixels(len: usize) -> usize {
+    fn complete_pixels(len: usize) -> usize {
         len
     }
 });
@@ -1051,7 +1051,7 @@ wrong!(a_source_read_before_its_length_is_tested, "pc 0 0 0 - - - none -", {
 
 // What random cases can hardly find: the cases that are the same in every run must.
 
-/// The same, without the demand that random cases find it.
+/// The same, and random cases need not find it.
 macro_rules! wrong_in_fixed {
     ($name:ident, $smallest:literal, { $($steps:tt)* }) => {
         #[test]
@@ -1060,8 +1060,7 @@ macro_rules! wrong_in_fixed {
             impl Encoder for Wrong {
                 $($steps)*
             }
-            let difference = SEARCH.difference_in(with::<Wrong>()).expect("a mistake is found");
-            assert_eq!(difference.case.to_string(), $smallest, "{difference}");
+            SEARCH.finds_in_fixed(with::<Wrong>(), $smallest);
         }
     };
 }
@@ -1074,7 +1073,7 @@ wrong_in_fixed!(a_product_of_sides_that_wraps, "pc 8192 8 0 - - - none -", {
 
 // What only large pictures show: making them smaller takes long, so it is enough that they are found.
 
-/// The same, without a smallest input, and without the demand that random cases find it.
+/// The same, without a smallest input, and and random cases need not find it.
 macro_rules! wrong_in_large {
     ($name:ident, { $($steps:tt)* }) => {
         #[test]

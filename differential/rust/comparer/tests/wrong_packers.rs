@@ -155,9 +155,9 @@ impl Writer<'_> {
     }
 
     fn put_long<const MISTAKE: u8>(&mut self, value: u8, mut run: usize) -> Result<(), i64> {
-        let least = if MISTAKE == SIXTEEN_LEFT_NOT_LONG { 17 } else { 16 };
+        let shortest = if MISTAKE == SIXTEEN_LEFT_NOT_LONG { 17 } else { 16 };
         let most = if MISTAKE == FORTY_EIGHT_AT_ONCE { 48 } else { 47 };
-        while run >= least {
+        while run >= shortest {
             let taken = run.min(most);
             self.put::<MISTAKE>(long_control::<MISTAKE>(taken), &[])?;
             run -= taken;
@@ -447,7 +447,7 @@ fn sixteen_raw_bytes_in_one_segment() {
     is_found(exported::<Packer<SIXTEEN_RAW>>, "pp 16 1 00000001000100000001000001000000 EE*16");
 }
 
-/// What it answers hangs on the call before, so its smallest input says little.
+/// Its answer depends on the call before, so there is no smallest input.
 #[test]
 fn a_row_kept_from_the_plane_before() {
     assert!(SEARCH.difference_in(with(exported::<Packer<ROW_KEPT>>)).is_some());

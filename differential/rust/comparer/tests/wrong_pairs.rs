@@ -1,15 +1,15 @@
-//! The prefix theorem (demand 3) must find every one of these mistakes, by its own cases alone, and none in a right pair.
+//! The cases of the prefix theorem alone must find each of these mistakes, and none in a right pair.
 
 mod support;
 
-use comparer::demand::random::Random;
-use comparer::demand::{fixed, Model};
 use comparer::planes::{counts, segment_starts};
+use comparer::prefix::random::Random;
+use comparer::prefix::{fixed, Model};
 use comparer::{Function, Library};
 use support::{exported, Call, RightPack, Search, Slices, RIGHT_LIBRARY, RIGHT_UNPACK};
 
 const ALWAYS_7: u8 = 1;
-const SEVEN_IF_CUT: u8 = 2;
+const SEVEN_IF_TRUNCATED: u8 = 2;
 const INVENTED_COUNT: u8 = 3;
 const COUNT_IS_ALL: u8 = 4;
 const NEXT_ROW_AS_SAMPLES: u8 = 5;
@@ -19,7 +19,7 @@ const HALF_A_SEGMENT: u8 = 8;
 const LAST_ROW_CODED: u8 = 9;
 const REST_CLEARED: u8 = 10;
 const FIRST_ROW_COPIED: u8 = 11;
-const CUT_TAKEN: u8 = 12;
+const TRUNCATED_TAKEN: u8 = 12;
 const EIGHT_FOR_SEVEN: u8 = 13;
 const FOLLOWING_REFUSED: u8 = 14;
 
@@ -29,12 +29,12 @@ fn right(slices: &Slices, width: usize, height: usize) -> i64 {
     unsafe { RIGHT_UNPACK(slices.src, slices.src_len, slices.dst, slices.dst_len, width, height) }
 }
 
-/// The samples that all whole segments in the source fill.
+/// The samples of all complete segments of the source.
 fn filled(slices: &Slices) -> usize {
     let source = slices.source();
     let fits = |&at: &usize| at + 1 + counts(source[at]).0 <= source.len();
-    let whole = segment_starts(source).into_iter().filter(fits);
-    whole.map(|at| counts(source[at])).map(|(raw, run)| raw + run).sum()
+    let complete = segment_starts(source).into_iter().filter(fits);
+    complete.map(|at| counts(source[at])).map(|(raw, run)| raw + run).sum()
 }
 
 fn undelta(code: u8) -> u8 {
@@ -56,19 +56,19 @@ impl<const MISTAKE: u8> Call for Unpacker<MISTAKE> {
         }
         let answer = right(&slices, width, height);
         if answer < 0 {
-            spoil_cut::<MISTAKE>(&mut slices, &before, width, answer)
+            spoil_truncated::<MISTAKE>(&mut slices, &before, width, answer)
         } else {
-            spoil_whole::<MISTAKE>(&mut slices, width, height, answer)
+            spoil_complete::<MISTAKE>(&mut slices, width, height, answer)
         }
     }
 }
 
-/// What is done wrong with a cut packing.
-fn spoil_cut<const MISTAKE: u8>(slices: &mut Slices, before: &[u8], width: usize, answer: i64) -> i64 {
+/// What is done wrong with a truncated packing.
+fn spoil_truncated<const MISTAKE: u8>(slices: &mut Slices, before: &[u8], width: usize, answer: i64) -> i64 {
     let filled = filled(slices);
     let next = filled / width * width;
     match MISTAKE {
-        SEVEN_IF_CUT => slices.destination().copy_from_slice(before),
+        SEVEN_IF_TRUNCATED => slices.destination().copy_from_slice(before),
         NEXT_ROW_UNTOUCHED => slices.destination()[next..].copy_from_slice(&before[next..]),
         NEXT_ROW_CLEARED => slices.destination()[filled..next + width].fill(0),
         NEXT_ROW_AS_SAMPLES if next > 0 => (next..filled)
@@ -79,14 +79,14 @@ fn spoil_cut<const MISTAKE: u8>(slices: &mut Slices, before: &[u8], width: usize
             slices.destination()[next - width..next].copy_from_slice(&row);
         }
         HALF_A_SEGMENT => put_half(slices, filled, next + width),
-        CUT_TAKEN => return slices.src_len as i64,
+        TRUNCATED_TAKEN => return slices.src_len as i64,
         EIGHT_FOR_SEVEN => return -8,
         _ => {}
     }
     answer
 }
 
-/// The raw bytes that are there of the segment that is not whole.
+/// The raw bytes of the incomplete segment, as far as there are any.
 fn put_half(slices: &mut Slices, from: usize, to: usize) {
     let source = slices.source().to_vec();
     let last = segment_starts(&source).pop().filter(|&at| at + 1 + counts(source[at]).0 > source.len());
@@ -95,8 +95,8 @@ fn put_half(slices: &mut Slices, from: usize, to: usize) {
     }
 }
 
-/// What is done wrong with a whole one.
-fn spoil_whole<const MISTAKE: u8>(slices: &mut Slices, width: usize, height: usize, answer: i64) -> i64 {
+/// What is done wrong with a complete packing.
+fn spoil_complete<const MISTAKE: u8>(slices: &mut Slices, width: usize, height: usize, answer: i64) -> i64 {
     match MISTAKE {
         INVENTED_COUNT => return (width * height) as i64,
         COUNT_IS_ALL => return slices.src_len as i64,
@@ -112,7 +112,7 @@ fn spoil_whole<const MISTAKE: u8>(slices: &mut Slices, width: usize, height: usi
 }
 
 /// A packer and an unpacker that are wrong in the same way: they take every sample's complement for the sample. What is
-/// packed comes back as it was.
+/// packed is unpacked to the same samples.
 struct PackComplements;
 
 impl Call for PackComplements {
@@ -133,8 +133,8 @@ impl Call for UnpackComplements {
     }
 }
 
-/// A packer that writes every coded value as a segment of its own. Every unpacker gives back what it packs, and all that a
-/// cut holds.
+/// A packer that writes every coded value as a segment of its own. Every unpacker restores what it packs, and the complete
+/// segments of a prefix.
 struct PackSingly;
 
 impl Call for PackSingly {
@@ -179,81 +179,81 @@ fn a_right_pair_has_no_difference() {
 fn complements_packed_and_unpacked() {
     pair_is_found(
         Library { unpack: exported::<UnpackComplements>, pack: exported::<PackComplements>, ..RIGHT_LIBRARY },
-        "d3 1 1 00 0 - EE",
+        "px 1 1 00 0 - EE",
     );
 }
 
 #[test]
 fn every_value_a_segment_of_its_own() {
-    pair_is_found(Library { pack: exported::<PackSingly>, ..RIGHT_LIBRARY }, "d3 2 1 0000 0 - EEEE");
+    pair_is_found(Library { pack: exported::<PackSingly>, ..RIGHT_LIBRARY }, "px 2 1 0000 0 - EEEE");
 }
 
 #[test]
-fn an_unpacker_that_says_7_at_once() {
-    is_found(exported::<Unpacker<ALWAYS_7>>, "d3 1 1 00 2 - EE");
+fn an_unpacker_that_always_answers_7() {
+    is_found(exported::<Unpacker<ALWAYS_7>>, "px 1 1 00 2 - EE");
 }
 
 #[test]
 fn nothing_unpacked_if_bytes_are_missing() {
-    is_found(exported::<Unpacker<SEVEN_IF_CUT>>, "d3 1 2 0000 2 - EEEE");
+    is_found(exported::<Unpacker<SEVEN_IF_TRUNCATED>>, "px 1 2 0000 2 - EEEE");
 }
 
 #[test]
 fn an_invented_read_count() {
-    is_found(exported::<Unpacker<INVENTED_COUNT>>, "d3 1 1 00 2 - EE");
+    is_found(exported::<Unpacker<INVENTED_COUNT>>, "px 1 1 00 2 - EE");
 }
 
 #[test]
 fn following_bytes_counted() {
-    is_found(exported::<Unpacker<COUNT_IS_ALL>>, "d3 1 1 00 2 00 EE");
+    is_found(exported::<Unpacker<COUNT_IS_ALL>>, "px 1 1 00 2 00 EE");
 }
 
 #[test]
 fn the_next_row_as_samples() {
-    is_found(exported::<Unpacker<NEXT_ROW_AS_SAMPLES>>, "d3 5 2 00000100010000010000 8 - EE*10");
+    is_found(exported::<Unpacker<NEXT_ROW_AS_SAMPLES>>, "px 5 2 00000100010000010000 8 - EE*10");
 }
 
 #[test]
 fn the_next_row_untouched() {
-    is_found(exported::<Unpacker<NEXT_ROW_UNTOUCHED>>, "d3 5 1 00*4,01 2 - EE*5");
+    is_found(exported::<Unpacker<NEXT_ROW_UNTOUCHED>>, "px 5 1 00*4,01 2 - EE*5");
 }
 
 #[test]
 fn the_rest_of_the_next_row_cleared() {
-    is_found(exported::<Unpacker<NEXT_ROW_CLEARED>>, "d3 1 1 00 0 - EE");
+    is_found(exported::<Unpacker<NEXT_ROW_CLEARED>>, "px 1 1 00 0 - EE");
 }
 
 #[test]
 fn part_of_a_segment_unpacked() {
-    is_found(exported::<Unpacker<HALF_A_SEGMENT>>, "d3 2 1 0000 2 - EEEE");
+    is_found(exported::<Unpacker<HALF_A_SEGMENT>>, "px 2 1 0000 2 - EEEE");
 }
 
 #[test]
 fn a_finished_row_left_coded() {
-    is_found(exported::<Unpacker<LAST_ROW_CODED>>, "d3 1 3 010000 4 - EEEEEE");
+    is_found(exported::<Unpacker<LAST_ROW_CODED>>, "px 1 3 010000 4 - EEEEEE");
 }
 
 #[test]
 fn bytes_beyond_the_plane_cleared() {
-    is_found(exported::<Unpacker<REST_CLEARED>>, "d3 1 1 00 2 - EEEE");
+    is_found(exported::<Unpacker<REST_CLEARED>>, "px 1 1 00 2 - EEEE");
 }
 
 #[test]
 fn the_first_row_copied_down() {
-    is_found(exported::<Unpacker<FIRST_ROW_COPIED>>, "d3 1 2 0001 4 - EEEE");
+    is_found(exported::<Unpacker<FIRST_ROW_COPIED>>, "px 1 2 0001 4 - EEEE");
 }
 
 #[test]
-fn a_cut_packing_taken_for_whole() {
-    is_found(exported::<Unpacker<CUT_TAKEN>>, "d3 1 1 00 0 - EE");
+fn a_truncated_packing_taken_for_complete() {
+    is_found(exported::<Unpacker<TRUNCATED_TAKEN>>, "px 1 1 00 0 - EE");
 }
 
 #[test]
 fn refusal_8_for_7() {
-    is_found(exported::<Unpacker<EIGHT_FOR_SEVEN>>, "d3 1 1 00 0 - EE");
+    is_found(exported::<Unpacker<EIGHT_FOR_SEVEN>>, "px 1 1 00 0 - EE");
 }
 
 #[test]
 fn following_bytes_refused() {
-    is_found(exported::<Unpacker<FOLLOWING_REFUSED>>, "d3 1 1 00 2 00 EE");
+    is_found(exported::<Unpacker<FOLLOWING_REFUSED>>, "px 1 1 00 2 00 EE");
 }

@@ -1,5 +1,5 @@
-//! Which edges of the instrumented library were reached. Its code has a section of its own, by which they are told from the
-//! edges of IronRDP.
+//! Which edges of the instrumented library were reached. Its code has a section of its own, which distinguishes them from the edges
+//! of IronRDP.
 
 use std::ffi::{c_char, CStr};
 use std::{env, fs};

@@ -1,15 +1,17 @@
-//! What libFuzzer calls with each of its inputs. The input tells a case of one entry, which the setting RDP6_ENTRY names; the case
-//! is compared with IronRDP inside the domain and with document 01 outside it, on slices at either end of guarded pages.
+//! The function that libFuzzer calls with each of its inputs. The input makes a case of the entry that the setting RDP6_ENTRY names. The
+//! case is compared with IronRDP inside the domain and with docs/FORMAT.md outside it, on buffers at either end of guarded pages.
 
 mod edges;
 mod sanitizer;
 
+use comparer::report::report;
 use comparer::shrink::shrink;
 use comparer::tally::Kind;
 use comparer::Comparer;
 use edges::Edges;
+use reliability::case_from_bytes::case_from_bytes;
 use reliability::entry::Entry;
-use reliability::{compare, kind_of, told};
+use reliability::{compare, kind_of};
 use std::env;
 use std::ffi::c_int;
 use std::process::{abort, exit};
@@ -20,7 +22,7 @@ struct State {
     entry: Entry,
     comparer: Comparer,
     edges: Edges,
-    /// Under which the entry's cases are counted, once there was one.
+    /// The kind under which the entry's cases are counted, once there was one.
     kind: Option<Kind>,
 }
 
@@ -46,23 +48,23 @@ pub extern "C" fn LLVMFuzzerInitialize(_count: *mut c_int, _words: *mut *mut *mu
     let state = State { entry: entry(), comparer, edges: Edges::new(), kind: None };
     STATE.store(Box::into_raw(Box::new(state)), Ordering::Relaxed);
     // SAFETY: a function of this library, which stays.
-    unsafe { atexit(report) };
+    unsafe { atexit(print_report) };
     0
 }
 
 /// # Safety
 ///
-/// libFuzzer lends `len` bytes for the call, and calls from one thread.
+/// The `len` bytes are valid during the call, and libFuzzer calls from one thread.
 #[no_mangle]
 pub unsafe extern "C" fn LLVMFuzzerTestOneInput(data: *const u8, len: usize) -> c_int {
     // SAFETY: made at the start, and used by one thread alone.
     let state = unsafe { &mut *STATE.load(Ordering::Relaxed) };
-    // SAFETY: lent for this call; an empty slice can be NULL.
+    // SAFETY: valid during this call; an empty slice can be NULL.
     let bytes = if len == 0 { &[] } else { unsafe { std::slice::from_raw_parts(data, len) } };
-    let input = told::case(state.entry, bytes);
+    let input = case_from_bytes(state.entry, bytes);
     state.kind = Some(kind_of(&input));
     if let Err(difference) = compare(&mut state.comparer, &input) {
-        eprintln!("{}", shrink(&mut state.comparer, difference));
+        eprintln!("{}", report(&shrink(&mut state.comparer, difference), "difference.txt"));
         abort();
     }
     state.edges.note();
@@ -70,11 +72,11 @@ pub unsafe extern "C" fn LLVMFuzzerTestOneInput(data: *const u8, len: usize) -> 
 }
 
 /// What was tried, once libFuzzer has ended.
-extern "C" fn report() {
+extern "C" fn print_report() {
     // SAFETY: made at the start, and nothing else uses it any more.
     let state = unsafe { &mut *STATE.load(Ordering::Relaxed) };
     let (name, tally) = (state.entry.name(), &state.comparer.tally);
-    let came_out = state.kind.map_or(String::new(), |kind| tally.came_out(kind));
-    println!("fuzz: {name}: {} inputs, 0 different; {came_out}", tally.total());
+    let answers = state.kind.map_or(String::new(), |kind| tally.answers_line(kind));
+    println!("fuzz: {name}: {} inputs, 0 different; {answers}", tally.total());
     println!("fuzz: {name}: {}", state.edges.report());
 }

@@ -1,6 +1,6 @@
-//! What the address sanitiser and its settings see of this program.
+//! The calls of the address sanitiser, and its settings.
 
-use comparer::lend;
+use comparer::guarded;
 use std::ffi::c_char;
 
 extern "C" {
@@ -8,9 +8,9 @@ extern "C" {
     fn __asan_unpoison_memory_region(at: *const u8, len: usize);
 }
 
-/// Forbids the bytes beside a guarded slice to the instrumented library for the time of a call.
+/// Forbids the bytes beside a buffer to the instrumented library during a call.
 pub fn watch(at: *const u8, len: usize, forbidden: bool) {
-    // SAFETY: bytes of pages that are the lender's; only what the sanitiser knows of them is changed.
+    // SAFETY: bytes of guarded pages; only what the sanitiser knows of them is changed.
     unsafe {
         match forbidden {
             true => __asan_poison_memory_region(at, len),
@@ -19,14 +19,14 @@ pub fn watch(at: *const u8, len: usize, forbidden: bool) {
     }
 }
 
-/// A touched guard page is the lender's to note. What is kept to the end of the program is no leak.
+/// The comparer handles the faults of forbidden pages itself. What is kept to the end of the program is no leak.
 #[no_mangle]
 pub extern "C" fn __asan_default_options() -> *const c_char {
     c"handle_segv=0:detect_leaks=0:quarantine_size_mb=1:malloc_context_size=0".as_ptr()
 }
 
-/// The sanitiser has found something and ends the program: the case first.
+/// The sanitiser has found something and ends the program. This prints the case first.
 #[no_mangle]
 pub extern "C" fn __asan_on_error() {
-    lend::tell_current("different: the address sanitiser reports");
+    guarded::print_current_case("different: the address sanitiser reports");
 }

@@ -1,6 +1,6 @@
 //! Stands in for the crate `ironrdp_pdu`. Of it the picture decoder uses the record of a picture: the header's settings and
-//! the body. The parser of the header byte is not at hand, and nothing here stands for it. The picture encoder writes the
-//! header's settings: here as a byte from which they can be told again.
+//! the body. The parser of the header byte is not available, and nothing here replaces it. The picture encoder writes the
+//! header's settings: here as a byte from which they can be read again.
 
 pub mod bitmap {
     pub mod rdp6 {

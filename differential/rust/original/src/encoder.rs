@@ -1,4 +1,4 @@
-//! The picture encoder. Its destination begins with the header's byte, which document 01 leaves out.
+//! The picture encoder. Its destination begins with the header byte, which the library does not write.
 
 use crate::rdp6::bitmap_stream::encoder::{BgrAChannels, BitmapEncodeError, BitmapStreamEncoder};
 use crate::{panics, Answer, Header};
@@ -8,13 +8,13 @@ use crate::{panics, Answer, Header};
 pub struct Encoded {
     /// The bytes written behind the header's byte, or why not all were.
     pub answer: Answer,
-    /// The header as it was handed over for writing, before any sample was looked at; none if its byte had no room.
+    /// The header as it was passed to its writer, before any sample was read; none if there was no room for its byte.
     pub header: Option<Header>,
 }
 
-/// Packs, and tells what came of it. The destination's first byte is not looked at before the call.
+/// Packs, and returns the answer and the header. The destination's first byte is not read before the call.
 fn encoded(dst: &mut [u8], encode: impl FnOnce(&mut [u8]) -> Result<usize, BitmapEncodeError>) -> Encoded {
-    // No header's byte: whether one is written can be told.
+    // No value of a header byte: so it is seen whether one is written.
     if let Some(first) = dst.first_mut() {
         *first = 0xEE;
     }

@@ -1,4 +1,4 @@
-//! IronRDP, unchanged, behind functions that always come back: its errors by document 01's numbers,
+//! IronRDP, unchanged, behind functions that always return: its errors as the refusals of FORMAT 8,
 //! its panics caught.
 
 include!(concat!(env!("OUT_DIR"), "/modules.rs"));
@@ -21,9 +21,9 @@ pub enum Answer {
     /// So many bytes were read by unpacking a plane, or written by packing one or a picture; or so many bytes of image were
     /// made.
     Done(usize),
-    /// Document 01's number: 7, 8 or 9 from unpacking, 4 too from a picture; 11 or 12 from packing.
+    /// By the number of FORMAT 8: 7, 8 or 9 from unpacking, also 4 from a picture; 11 or 12 from packing.
     Refused(u8),
-    /// The destination ended inside the first row. No number of document 01: it refuses by 10 before.
+    /// The destination ended inside the first row. This has no number: the library refuses by 10 before.
     WriteError,
     /// A panic, and its place as file:line.
     Panic(String),
@@ -102,16 +102,16 @@ mod tests {
     use super::{compress, pack, unpack, Answer};
 
     #[test]
-    fn example_14_whole_and_cut() {
+    fn example_14_complete_and_truncated() {
         let samples: Vec<u8> = [[9; 17], [10; 17]].concat();
         let packed = pack(&samples, 17, 2).unwrap();
         assert_eq!(packed, [0x1F, 9, 0x10, 9, 0x1F, 2, 0x10, 2]);
         let mut plane = vec![0xEE; 34];
         assert_eq!(unpack(&packed, &mut plane, 17, 2), Answer::Done(8));
         assert_eq!(plane, samples);
-        let mut cut = vec![0xEE; 34];
-        assert_eq!(unpack(&packed[..6], &mut cut, 17, 2), Answer::Refused(7));
-        assert_eq!(cut, [&[9; 17][..], &[2; 16], &[0xEE]].concat());
+        let mut plane = vec![0xEE; 34];
+        assert_eq!(unpack(&packed[..6], &mut plane, 17, 2), Answer::Refused(7));
+        assert_eq!(plane, [&[9; 17][..], &[2; 16], &[0xEE]].concat());
     }
 
     #[test]

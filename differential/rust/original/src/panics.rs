@@ -1,4 +1,4 @@
-//! Catches panics and says where they were, without a word on the error stream.
+//! Catches panics and returns their place, without a message on the error stream.
 
 use std::cell::{Cell, RefCell};
 use std::panic::{self, AssertUnwindSafe, PanicHookInfo};

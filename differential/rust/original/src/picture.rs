@@ -11,7 +11,7 @@ pub enum Definition {
     AYCoCg { loss_level: u8, subsampled: bool },
 }
 
-/// What the header says.
+/// What the header contains.
 #[derive(Clone, Copy, Debug, PartialEq, Eq)]
 pub struct Header {
     pub rle: bool,

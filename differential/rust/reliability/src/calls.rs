@@ -1,32 +1,34 @@
-//! Calls of the library on slices that are used again from call to call, as a service uses them, and what must come of them.
+//! Calls of the library on buffers that are used again from call to call, as in a service, and their required answers.
 
 use crate::LIBRARY;
 use comparer::case::Operation;
 use comparer::encoding::{OwnedEncoding, Sources};
 use comparer::picture::{OwnedPicture, Sizes};
+use comparer::report::report;
 use comparer::{bytes, Comparer, Input, Owned};
 
-/// What a call answers; the second number is of the two sizes alone.
+/// The answer of a call; the second number is for the two sizes alone.
 pub type Answers = [i64; 2];
 
-/// A case with what must come of it: by IronRDP inside the domain, by document 01 outside.
+/// A case with its required answer and buffers: by IronRDP inside the domain, by docs/FORMAT.md outside.
 pub struct Known {
     pub input: Input,
     answers: Answers,
-    /// What each slice that can be written must hold.
+    /// What each buffer that can be written must hold.
     afters: Vec<Vec<u8>>,
 }
 
 impl Known {
     pub fn of(comparer: &mut Comparer, input: Input) -> Result<Known, String> {
-        let (answer, after) = comparer.wanted(&input).map_err(|difference| difference.to_string())?;
-        let number = answer.number().ok_or_else(|| format!("the Rust: {answer}, in\n  {input}"))?;
+        let (answer, after) = comparer.wanted(&input).map_err(|difference| report(&difference, "difference.txt"))?;
+        let number =
+            answer.number().ok_or_else(|| report(&format!("IronRDP: {answer}, in\n  {input}"), "difference.txt"))?;
         let second = if let Input::Sizes(sizes) = &input { sizes.image() as i64 } else { 0 };
         let afters = after.0.into_iter().map(|(_, bytes)| bytes).collect();
         Ok(Known { input, answers: [number, second], afters })
     }
 
-    /// A number made of all that must come of it.
+    /// A number computed from the required answer and buffers.
     pub fn digest(&self, earlier: u64) -> u64 {
         let answers = self.answers.iter().flat_map(|answer| answer.to_le_bytes());
         let bytes = answers.chain(self.afters.iter().flatten().copied());
@@ -34,22 +36,22 @@ impl Known {
     }
 }
 
-/// The slices that calls write to.
+/// The buffers that calls write.
 #[derive(Default)]
 pub struct Caller {
     work: Vec<u8>,
     image: Vec<u8>,
 }
 
-/// Makes a slice hold what it must hold before a call.
+/// Fills a buffer with what it must hold before a call.
 fn fill(slice: &mut Vec<u8>, before: &[u8]) {
     slice.clear();
     slice.extend_from_slice(before);
 }
 
 impl Caller {
-    /// Calls the library and holds it to what must come of it. Says what is different, if anything.
-    pub fn hold(&mut self, known: &Known) -> Result<(), String> {
+    /// Calls the library and compares. The error says what differs.
+    pub fn compare(&mut self, known: &Known) -> Result<(), String> {
         let answers = self.call(&known.input);
         let written: [&[u8]; 2] = match known.input {
             Input::Picture(_) => [&self.work, &self.image],
@@ -58,12 +60,15 @@ impl Caller {
         if answers == known.answers && known.afters.iter().zip(written).all(|(wanted, got)| wanted == got) {
             return Ok(());
         }
-        let wanted: Vec<String> = known.afters.iter().map(|after| bytes::text(after)).collect();
-        let got = written.map(bytes::text);
-        Err(format!(
-            "different:\n  {}\n  wanted: {:?} {wanted:?}\n  the library: {answers:?} {got:?}",
+        let texts = |buffers: &[&[u8]]| buffers.iter().map(|bytes| bytes::text(bytes)).collect::<Vec<_>>().join(" ");
+        let wanted = texts(&known.afters.iter().map(|after| &after[..]).collect::<Vec<_>>());
+        let got = texts(&written[..known.afters.len()]);
+        let reference = known.input.reference();
+        let text = format!(
+            "different:\n  {}\n  {reference}: {:?} {wanted}\n  rdp6: {answers:?} {got}",
             known.input, known.answers
-        ))
+        );
+        Err(report(&text, "difference.txt"))
     }
 
     fn call(&mut self, input: &Input) -> Answers {
@@ -72,7 +77,7 @@ impl Caller {
             Input::Picture(case) => [self.call_decoder(case), 0],
             Input::Sizes(case) => call_sizes(case),
             Input::Encoding(case) => [self.call_encoder(case), 0],
-            Input::Demand(_) => unreachable!("demand 3 is no call"),
+            Input::Prefix(_) => unreachable!("a case of the prefix theorem is no single call"),
         }
     }
 
@@ -119,20 +124,20 @@ mod tests {
     use crate::LIBRARY;
     use comparer::Comparer;
 
-    /// The library is compared in every answer and every byte: what is a little otherwise is found.
+    /// Every answer and every byte is compared: a change of any of them is found.
     #[test]
-    fn what_is_otherwise_is_different() {
+    fn every_changed_answer_and_byte_is_found() {
         let (mut comparer, mut caller) = (Comparer::new(LIBRARY), Caller::default());
         for (_, input) in Mix::new(3).take(400) {
             let mut known = Known::of(&mut comparer, input).unwrap();
-            assert_eq!(caller.hold(&known), Ok(()));
+            assert_eq!(caller.compare(&known), Ok(()));
             known.answers[0] += 1;
-            assert!(caller.hold(&known).is_err());
+            assert!(caller.compare(&known).is_err());
             known.answers[0] -= 1;
             for slice in 0..known.afters.len() {
                 if let Some(at) = known.afters[slice].len().checked_sub(1) {
                     known.afters[slice][at] ^= 1;
-                    assert!(caller.hold(&known).is_err());
+                    assert!(caller.compare(&known).is_err());
                     known.afters[slice][at] ^= 1;
                 }
             }

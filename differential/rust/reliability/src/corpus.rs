@@ -1,10 +1,12 @@
-//! A fuzzer's inputs as files: what it begins with, and what it has found, run through this library.
+//! A fuzzer's inputs as files: those that it begins with, and those that it kept, compared with the library as it is linked.
 
+use comparer::report::report;
 use comparer::shrink::shrink;
 use comparer::Comparer;
+use reliability::case_from_bytes::case_from_bytes;
 use reliability::entry::{Entry, ENTRIES};
 use reliability::mix::Mix;
-use reliability::{compare, kind_of, told, LIBRARY};
+use reliability::{compare, kind_of, LIBRARY};
 use std::fs;
 use std::path::Path;
 
@@ -45,13 +47,14 @@ fn replay_entry(entry: Entry, folder: &Path) -> Result<u64, String> {
     let mut kind = None;
     for path in paths {
         let bytes = fs::read(&path).map_err(|why| failed(&path, &why))?;
-        let input = told::case(entry, &bytes);
+        let input = case_from_bytes(entry, &bytes);
         kind = Some(kind_of(&input));
         if let Err(difference) = compare(&mut comparer, &input) {
-            return Err(format!("replay: FAILED at {}\n{}", path.display(), shrink(&mut comparer, difference)));
+            let shrunk = shrink(&mut comparer, difference);
+            return Err(format!("replay: FAILED at {}\n{}", path.display(), report(&shrunk, "difference.txt")));
         }
     }
-    let came_out = kind.map_or(String::new(), |kind| comparer.tally.came_out(kind));
-    println!("replay: {}: {came_out}", entry.name());
+    let answers = kind.map_or(String::new(), |kind| comparer.tally.answers_line(kind));
+    println!("replay: {}: {answers}", entry.name());
     Ok(comparer.tally.total())
 }

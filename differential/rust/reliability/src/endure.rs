@@ -1,11 +1,11 @@
-//! One process for long: the same reference cases again and again, new cases in between, every answer and every byte compared with
-//! what must come of it.
+//! One process for a long time: the same reference cases again and again, new cases in between, every answer and every byte
+//! compared.
 
 use comparer::Comparer;
 use reliability::calls::{Caller, Known};
 use reliability::entry::ENTRIES;
 use reliability::mix::Mix;
-use reliability::system::{cpu_time, Holding};
+use reliability::system::{cpu_time, Resources};
 use reliability::LIBRARY;
 use std::time::{Duration, Instant};
 
@@ -13,12 +13,12 @@ use std::time::{Duration, Instant};
 const REFERENCE: usize = 4_000;
 /// The new cases between two runs of them.
 const NEW: usize = 4_000;
-/// How often a line is printed, at most.
+/// A line is printed at most so often.
 const SLICE: Duration = Duration::from_secs(60);
 /// Memory that may come and go: pages of the program itself and of the allocator that are first touched late.
 const SPARE_KIB: u64 = 1024;
 
-/// What was done in a stretch of time.
+/// What was done in a part of the time.
 #[derive(Clone, Copy, Default)]
 struct Share {
     reference: u64,
@@ -58,13 +58,13 @@ impl Run {
     fn round(&mut self, share: &mut Share) -> Result<(), String> {
         let begin = cpu_time();
         for known in &self.reference {
-            self.caller.hold(known)?;
+            self.caller.compare(known)?;
         }
         share.busy += cpu_time() - begin;
         share.reference += self.reference.len() as u64;
         for (_, input) in self.mix.by_ref().take(NEW) {
             let known = Known::of(&mut self.comparer, input)?;
-            self.caller.hold(&known)?;
+            self.caller.compare(&known)?;
         }
         share.fresh += NEW as u64;
         Ok(())
@@ -79,29 +79,29 @@ impl Run {
     }
 }
 
-fn print_line(when: &str, share: &Share, holding: &Holding) {
+fn print_line(when: &str, share: &Share, resources: &Resources) {
     println!(
         "{when:>12} {:>13} calls, {:>9.0} reference calls a second, resident {} KiB, at most {} KiB, {} files open",
         share.reference + share.fresh,
         share.rate(),
-        holding.resident,
-        holding.highest,
-        holding.files
+        resources.resident,
+        resources.highest,
+        resources.files
     );
 }
 
 pub fn run(seconds: u64, seed: u64) -> Result<(), String> {
-    println!("endurance: {seconds} seconds, seed {seed}, one process, all entries mixed, every answer and byte held to the Rust");
-    println!("or, outside the domain, to document 01; {REFERENCE} reference cases again and again, {NEW} new ones in between");
+    println!("endurance: {seconds} seconds, seed {seed}, one process, all entries mixed, every answer and byte compared with IronRDP");
+    println!("or, outside the domain, with docs/FORMAT.md; {REFERENCE} reference cases again and again, {NEW} new ones in between");
     let (begin, time) = (Instant::now(), Duration::from_secs(seconds));
     let mut run = Run::new(seed)?;
     let digest = run.reference.iter().fold(0xCBF2_9CE4_8422_2325, |sum, known| known.digest(sum));
     println!(
-        "reference cases of each entry: {}, digest of what must come of them: {digest:016x}",
+        "reference cases of each entry: {}, digest of the required answers: {digest:016x}",
         REFERENCE / ENTRIES.len()
     );
     let warm = run.until(begin + time / 20)?;
-    let warmed = Holding::now();
+    let warmed = Resources::now();
     print_line("warm", &warm, &warmed);
     let slices = slices_of(&mut run, begin, time)?;
     summary(&warm, &slices, warmed, begin.elapsed())
@@ -115,15 +115,15 @@ fn slices_of(run: &mut Run, begin: Instant, time: Duration) -> Result<Vec<Share>
     while begin.elapsed() < time {
         let share = run.until((Instant::now() + length).min(begin + time))?;
         slices.push(share);
-        print_line(&format!("{} s", begin.elapsed().as_secs()), &share, &Holding::now());
+        print_line(&format!("{} s", begin.elapsed().as_secs()), &share, &Resources::now());
     }
     Ok(slices)
 }
 
-fn summary(warm: &Share, slices: &[Share], warmed: Holding, took: Duration) -> Result<(), String> {
+fn summary(warm: &Share, slices: &[Share], warmed: Resources, took: Duration) -> Result<(), String> {
     let mut all = *warm;
     slices.iter().for_each(|&share| all.add(share));
-    let end = Holding::now();
+    let end = Resources::now();
     let (first, last) = (slices.first().unwrap_or(warm).rate(), slices.last().unwrap_or(warm).rate());
     println!(
         "endurance: {} calls in {} s ({} of reference cases, {} of new ones), 0 different",

@@ -1,17 +1,17 @@
-//! Cases told by plain bytes, for a fuzzer and for runs of hours, and calls on slices that are used again and again.
+//! Cases made from bytes, for a fuzzer and for runs of hours, and calls on buffers that are used again and again.
 
 pub mod calls;
+pub mod case_from_bytes;
 pub mod entry;
 pub mod mix;
 pub mod system;
-pub mod told;
 
 use comparer::encoding::check::Encoders;
 use comparer::picture::check::Pictures;
 use comparer::tally::Kind;
 use comparer::{Comparer, Input, Library, Outcome};
 
-/// The port's library.
+/// The library.
 pub const LIBRARY: Library = Library {
     unpack: ours::rdp6_decompress_8bpp_plane,
     pack: ours::rdp6_compress_8bpp_plane,
@@ -28,7 +28,7 @@ pub const LIBRARY: Library = Library {
     },
 };
 
-/// Under which of the comparer's kinds a case is counted.
+/// The kind under which the comparer counts a case.
 pub fn kind_of(input: &Input) -> Kind {
     match input {
         Input::Call(case) if case.operation == comparer::case::Operation::Unpack => Kind::Noise,
@@ -36,11 +36,11 @@ pub fn kind_of(input: &Input) -> Kind {
         Input::Picture(_) => Kind::RandomBodies,
         Input::Sizes(_) => Kind::SizesTable,
         Input::Encoding(_) => Kind::RandomEncodings,
-        Input::Demand(_) => Kind::DemandRandom,
+        Input::Prefix(_) => Kind::PrefixRandom,
     }
 }
 
-/// Compares a case with what must become of it, on slices at either end of guarded pages, and counts it.
+/// Compares a case, on buffers at either end of guarded pages, and counts it.
 pub fn compare(comparer: &mut Comparer, input: &Input) -> Outcome {
     let kind = kind_of(input);
     match input {
@@ -48,6 +48,6 @@ pub fn compare(comparer: &mut Comparer, input: &Input) -> Outcome {
         Input::Picture(case) => comparer.compare_picture(kind, case.view()),
         Input::Sizes(case) => comparer.compare_sizes(kind, *case),
         Input::Encoding(case) => comparer.compare_encoding(kind, case.view()),
-        Input::Demand(case) => comparer.look(&Input::Demand(case.clone())),
+        Input::Prefix(case) => comparer.check(&Input::Prefix(case.clone())),
     }
 }

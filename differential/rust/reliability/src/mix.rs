@@ -1,7 +1,7 @@
-//! Cases of all entries in turn, the same for the same seed: mostly small pictures, good and damaged, some of them refused.
+//! Cases of all entries, one entry after the other, the same for the same seed: mostly small pictures, good and damaged, some refused.
 
+use crate::case_from_bytes::case_from_bytes;
 use crate::entry::{Entry, ENTRIES};
-use crate::told;
 use comparer::{Input, Rng};
 
 /// The bytes in front that choose sides, lengths and forms.
@@ -17,7 +17,7 @@ impl Mix {
         Mix { rng: Rng::new(seed), next: 0 }
     }
 
-    /// Bytes that tell a case. Three of four times those that choose are low, which stands for slices of the right length.
+    /// Bytes that make a case. Three times of four those that choose are low, which makes buffers of the right length.
     pub fn bytes(&mut self) -> Vec<u8> {
         let filling = match self.rng.below(8) {
             0 => self.rng.within(0, 3),
@@ -39,6 +39,6 @@ impl Iterator for Mix {
         let entry = ENTRIES[self.next % ENTRIES.len()];
         self.next += 1;
         let bytes = self.bytes();
-        Some((entry, told::case(entry, &bytes)))
+        Some((entry, case_from_bytes(entry, &bytes)))
     }
 }

@@ -1,4 +1,4 @@
-//! What the system says of this process.
+//! Processor time, memory and open files of this process.
 
 use std::ffi::{c_int, c_long};
 use std::fs;
@@ -27,21 +27,21 @@ pub fn cpu_time() -> Duration {
 
 /// Memory and open files of this process.
 #[derive(Clone, Copy, Debug, PartialEq, Eq)]
-pub struct Holding {
+pub struct Resources {
     /// Resident memory now and at its highest, in KiB.
     pub resident: u64,
     pub highest: u64,
     pub files: usize,
 }
 
-impl Holding {
-    pub fn now() -> Holding {
+impl Resources {
+    pub fn now() -> Resources {
         let status = fs::read_to_string("/proc/self/status").expect("/proc/self/status");
         let of = |name: &str| {
             let line = status.lines().find_map(|line| line.strip_prefix(name)).expect("a line of /proc/self/status");
             line.trim_start_matches(':').trim().trim_end_matches(" kB").parse().expect("a number of KiB")
         };
         let files = fs::read_dir("/proc/self/fd").expect("/proc/self/fd").count();
-        Holding { resident: of("VmRSS"), highest: of("VmHWM"), files }
+        Resources { resident: of("VmRSS"), highest: of("VmHWM"), files }
     }
 }

@@ -6,21 +6,21 @@ use comparer::encoding::examples::EXAMPLES;
 use comparer::encoding::given::{form, given, ALPHAS, FORMS};
 use comparer::encoding::{OwnedEncoding, Sources};
 use comparer::picture::Planes;
-use comparer::planes::{segment_starts, Look, LOOKS, WIDTHS};
+use comparer::planes::{segment_starts, PlaneKind, PLANE_KINDS, WIDTHS};
 use comparer::Rng;
 
-/// Every part in turn, each with numbers of its own, so that a change in one leaves the others as they are.
+/// All parts, each with random numbers of its own, so that a change in one leaves the others as they are.
 pub fn keep_all(stored: &mut Encodings) {
     examples(stored);
     every_room(stored, &mut Rng::new(1));
     small_sides(stored, &mut Rng::new(2));
     segment_ends(stored, &mut Rng::new(3));
-    every_look(stored, &mut Rng::new(4));
+    every_kind(stored, &mut Rng::new(4));
     longer_sources(stored, &mut Rng::new(5));
     wide_and_tall(stored);
 }
 
-/// Small inputs that document 01 decides, as far as they are of this entry and inside the domain.
+/// Small inputs with known answers, as far as they are of this entry and inside the domain.
 fn examples(stored: &mut Encodings) {
     let cases = EXAMPLES.iter().map(|example| OwnedEncoding::parse(example.0).expect("the table's own text"));
     for mut case in cases.filter(OwnedEncoding::is_inside) {
@@ -39,10 +39,14 @@ fn forms() -> impl Iterator<Item = (bool, bool)> {
 
 /// Pictures with every room from none to one too many.
 fn every_room(stored: &mut Encodings, rng: &mut Rng) {
-    for (sides, look) in [((1, 1), Look::Noise), ((2, 2), Look::FewValues), ((3, 1), Look::Noise), ((4, 1), Look::Runs)]
-    {
+    for (sides, plane_kind) in [
+        ((1, 1), PlaneKind::Noise),
+        ((2, 2), PlaneKind::FewValues),
+        ((3, 1), PlaneKind::Noise),
+        ((4, 1), PlaneKind::Runs),
+    ] {
         for (rle, alpha) in forms() {
-            let sources = stored.sources(&Planes::with_looks(rng, form(alpha), sides, &[look]));
+            let sources = stored.sources(&Planes::with_kinds(rng, form(alpha), sides, &[plane_kind]));
             for room in 0..=given(rle, sides, sources.view()).packing().len() + 1 {
                 stored.keep(rle, sides, &sources, room);
             }
@@ -78,8 +82,8 @@ fn small_sides(stored: &mut Encodings, rng: &mut Rng) {
 fn segment_ends(stored: &mut Encodings, rng: &mut Rng) {
     for sides in [(17, 1), (20, 2), (34, 1)] {
         for alpha in ALPHAS {
-            let look = *rng.pick(&[Look::Runs, Look::RowsAlike]);
-            let sources = stored.sources(&Planes::with_looks(rng, form(alpha), sides, &[look]));
+            let plane_kind = *rng.pick(&[PlaneKind::Runs, PlaneKind::RowsAlike]);
+            let sources = stored.sources(&Planes::with_kinds(rng, form(alpha), sides, &[plane_kind]));
             let packing = given(true, sides, sources.view()).packing();
             for end in segment_starts(&packing).into_iter().chain([packing.len()]) {
                 for room in [end.saturating_sub(1), end, end + 1] {
@@ -90,19 +94,19 @@ fn segment_ends(stored: &mut Encodings, rng: &mut Rng) {
     }
 }
 
-/// Every look at all the widths, as far as it takes few characters.
-fn every_look(stored: &mut Encodings, rng: &mut Rng) {
+/// Planes of every kind at all the widths, as far as it takes few characters.
+fn every_kind(stored: &mut Encodings, rng: &mut Rng) {
     for width in WIDTHS {
-        for look in LOOKS {
+        for plane_kind in PLANE_KINDS {
             let (rle, alpha) = (!rng.once_in(3), rng.once_in(2));
             let sides = (width, rng.within(1, if width > 16 { 2 } else { 3 }));
-            let sources = stored.sources(&Planes::with_looks(rng, form(alpha), sides, &[look]));
+            let sources = stored.sources(&Planes::with_kinds(rng, form(alpha), sides, &[plane_kind]));
             keep_with_and_without_room(stored, rng, rle, sides, &sources);
         }
     }
 }
 
-/// More samples than the picture has, which RLE leaves; and bytes behind pixels that make no whole one, which raw packing leaves
+/// More samples than the picture has, which RLE leaves; and bytes behind the pixels that make no complete one, which raw packing leaves
 /// too.
 fn longer_sources(stored: &mut Encodings, rng: &mut Rng) {
     for _ in 0..30 {

@@ -59,10 +59,10 @@ impl Encodings {
         let longest = case.sources.slices().iter().map(|(slice, _)| slice.len()).max();
         assert!(longest.max(Some(case.before.len())) <= Some(LONGEST), "a case that is too long");
         let mut after = [&[0], &case.before[..]].concat();
-        let encoded = case.view().by_rust(&mut after);
+        let encoded = case.view().by_ironrdp(&mut after);
         assert_eq!(encoded.header, Some(record(case.rle)), "another record");
         let Some(number) = encoded.answer.number() else {
-            panic!("the Rust answers {} inside the domain", encoded.answer);
+            panic!("IronRDP answers {} inside the domain", encoded.answer);
         };
         let numbers = format!("{} {number} {}", case.before.len(), sent_text(&encoded));
         let form = format!("{} {}", flag(case.rle), flag(case.sources.has_alpha()));

@@ -1,4 +1,4 @@
-//! Writes samples of IronRDP's answers inside document 01's domain, one case a line: a file each for unpacking and packing of
+//! Writes samples of IronRDP's answers inside the domain, one case a line: a file each for unpacking and packing of
 //! planes,
 //!
 //!   WIDTH HEIGHT ROOM ANSWER SOURCE AFTER
@@ -12,9 +12,7 @@
 //!   WIDTH HEIGHT RLE ALPHA ROOM ANSWER SENTRLE SENTALPHA SENTDEFINITION R G B A AFTER
 //!   WIDTH HEIGHT RLE ALPHA ROOM ANSWER SENTRLE SENTALPHA SENTDEFINITION PIXELS AFTER
 //!
-//! README.md has the format. The samples are the same in every run.
-//!
-//!   store FOLDER
+//! README.md has the format. The samples are the same in every run. `USAGE` has the command line.
 
 mod encoding_sample;
 mod encodings;
@@ -23,6 +21,7 @@ mod picture_sample;
 mod pictures;
 mod sample;
 
+use comparer::arguments::{asks_for_help, refused, unexpected};
 use comparer::bytes;
 use comparer::case::{Operation, Owned};
 use encodings::Entry;
@@ -81,9 +80,9 @@ impl Stored {
         assert_eq!(case.view().refused_at_entry(), None, "a case outside the domain");
         assert!(room <= LONGEST && source.len() <= LONGEST, "a case that is too long");
         let mut after = case.before.clone();
-        let answer = case.view().by_rust(&mut after);
+        let answer = case.view().by_ironrdp(&mut after);
         let Some(number) = answer.number() else {
-            panic!("the Rust answers {answer} inside the domain");
+            panic!("IronRDP answers {answer} inside the domain");
         };
         let line = format!("{width} {height} {room} {number} {} {}\n", bytes::text(source), bytes::text(&after));
         self.lines.add(line);
@@ -101,13 +100,25 @@ const SAMPLES: [Sample; 5] = [
     ("bitmap-pack.txt", || encodings::lines(Entry::Bitmap)),
 ];
 
+const USAGE: &str = "\
+usage: store FOLDER   writes IronRDP's answers to plane-unpack.txt, plane-pack.txt, picture-unpack.txt, channels-pack.txt and
+                      bitmap-pack.txt in FOLDER
+       store --help   prints this";
+
 fn main() -> ExitCode {
-    let Some(folder) = std::env::args_os().nth(1) else {
-        eprintln!("usage: store FOLDER");
-        return ExitCode::from(2);
+    let words: Vec<String> = std::env::args().skip(1).collect();
+    let words: Vec<&str> = words.iter().map(String::as_str).collect();
+    if asks_for_help(&words) {
+        println!("{USAGE}");
+        return ExitCode::SUCCESS;
+    }
+    let folder = match words[..] {
+        [] => return refused("store", "no FOLDER"),
+        [folder] if !folder.starts_with('-') => folder,
+        [word] | [_, word, ..] => return refused("store", &unexpected(word)),
     };
     for (name, lines) in SAMPLES {
-        if let Err(status) = lines().write(&Path::new(&folder).join(name)) {
+        if let Err(status) = lines().write(&Path::new(folder).join(name)) {
             return status;
         }
     }

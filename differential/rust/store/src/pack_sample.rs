@@ -1,24 +1,24 @@
 //! Which cases of packing are stored: some around every boundary.
 
 use crate::Stored;
-use comparer::packing::telling::{literal, three_runs, under_a_row, BESIDE, LENGTHS, LITERALS};
-use comparer::planes::{self, segment_starts, Look, LOOKS, WIDTHS};
+use comparer::packing::boundary::{literal, three_runs, under_a_row, BESIDE, LENGTHS, LITERALS};
+use comparer::planes::{self, segment_starts, PlaneKind, PLANE_KINDS, WIDTHS};
 use comparer::Rng;
 
-/// Every part in turn, each with numbers of its own, so that a change in one leaves the others as they are.
+/// All parts, each with random numbers of its own, so that a change in one leaves the others as they are.
 pub fn keep_all(stored: &mut Stored) {
     every_room(stored, &mut Rng::new(1));
-    telling_runs(stored, &mut Rng::new(2));
-    telling_literals(stored, &mut Rng::new(3));
+    boundary_runs(stored, &mut Rng::new(2));
+    boundary_literals(stored, &mut Rng::new(3));
     second_rows(stored, &mut Rng::new(4));
     every_difference(stored, &mut Rng::new(5));
     longer_sources(stored, &mut Rng::new(6));
-    every_look(stored, &mut Rng::new(7));
+    every_kind(stored, &mut Rng::new(7));
     wide_and_tall(stored, &mut Rng::new(8));
 }
 
 fn packed(samples: &[u8], width: usize, height: usize) -> Vec<u8> {
-    original::pack(samples, width, height).expect("a whole plane with room")
+    original::pack(samples, width, height).expect("a complete plane with room")
 }
 
 /// The plane with room for its packing, or for a little more, and with room for less: up to the end of a segment, or nearly.
@@ -50,8 +50,8 @@ fn keep_with_every_room(stored: &mut Stored, width: usize, height: usize, sample
     }
 }
 
-/// A run of each telling length in each of three places, the other two short or long.
-fn telling_runs(stored: &mut Stored, rng: &mut Rng) {
+/// A run of each boundary length in each of three places, the other two short or long.
+fn boundary_runs(stored: &mut Stored, rng: &mut Rng) {
     for length in LENGTHS {
         stored.keep(length, 1, packed(&vec![7; length], length, 1).len(), &vec![7; length]);
         for place in 0..3 {
@@ -69,7 +69,7 @@ fn runs_around(rng: &mut Rng, length: usize, place: usize) -> [usize; 3] {
 }
 
 /// Different values, as many as go out by fifteens and one or two more or less, in front of a run and behind it.
-fn telling_literals(stored: &mut Stored, rng: &mut Rng) {
+fn boundary_literals(stored: &mut Stored, rng: &mut Rng) {
     for count in LITERALS {
         let row = literal(count);
         stored.keep(count, 1, packed(&row, count, 1).len(), &row);
@@ -108,8 +108,8 @@ fn every_difference(stored: &mut Stored, rng: &mut Rng) {
 fn longer_sources(stored: &mut Stored, rng: &mut Rng) {
     for _ in 0..120 {
         let (width, height) = (rng.within(1, 40), rng.within(1, 3));
-        let look = *rng.pick(&[Look::FewValues, Look::Runs, Look::RowsAlike]);
-        let mut samples = planes::samples(rng, look, width, height);
+        let plane_kind = *rng.pick(&[PlaneKind::FewValues, PlaneKind::Runs, PlaneKind::RowsAlike]);
+        let mut samples = planes::samples(rng, plane_kind, width, height);
         let room = packed(&samples, width, height).len() + *rng.pick(&[0, 1, 9]);
         let last = samples[samples.len() - 1];
         let more = rng.within(1, 50);
@@ -118,18 +118,18 @@ fn longer_sources(stored: &mut Stored, rng: &mut Rng) {
     }
 }
 
-/// Planes of every look at all the widths.
-fn every_look(stored: &mut Stored, rng: &mut Rng) {
+/// Planes of every kind at all the widths.
+fn every_kind(stored: &mut Stored, rng: &mut Rng) {
     for width in WIDTHS {
-        for look in LOOKS {
+        for plane_kind in PLANE_KINDS {
             let height = rng.within(1, if width > 20 { 2 } else { 4 });
-            let samples = planes::samples(rng, look, width, height);
+            let samples = planes::samples(rng, plane_kind, width, height);
             keep_with_and_without_room(stored, rng, width, height, &samples);
         }
     }
 }
 
-/// Planes at the longest sides, of looks that take few characters, and a wide and a tall one that take many.
+/// Planes at the longest sides, of kinds that take few characters, and a wide and a tall one that take many.
 fn wide_and_tall(stored: &mut Stored, rng: &mut Rng) {
     for width in [8191, 8192] {
         for height in 1..=2 {

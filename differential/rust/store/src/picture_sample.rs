@@ -1,28 +1,28 @@
-//! Which pictures are stored: small ones of all forms, whole, cut and damaged.
+//! Which pictures are stored: small ones of all forms, complete, truncated and damaged.
 
 use crate::pictures::Pictures;
 use crate::BEFORE;
 use comparer::picture::examples::EXAMPLES;
 use comparer::picture::refused::{few_forms, FLAGS};
 use comparer::picture::{Form, OwnedPicture, Planes};
-use comparer::planes::{self, segment_starts, Look, Making, LOOKS, WIDTHS};
+use comparer::planes::{self, segment_starts, Making, PlaneKind, PLANE_KINDS, WIDTHS};
 use comparer::Rng;
 
-/// Every part in turn, each with numbers of its own, so that a change in one leaves the others as they are.
+/// All parts, each with random numbers of its own, so that a change in one leaves the others as they are.
 pub fn keep_all(stored: &mut Pictures) {
     examples(stored);
     every_form(stored, &mut Rng::new(1));
     small_sides(stored, &mut Rng::new(2));
-    telling_colours(stored, &mut Rng::new(3));
+    boundary_colours(stored, &mut Rng::new(3));
     body_lengths(stored, &mut Rng::new(4));
-    cut_bodies(stored, &mut Rng::new(5));
+    truncated_bodies(stored, &mut Rng::new(5));
     damaged_bodies(stored, &mut Rng::new(6));
     made_bodies(stored, &mut Rng::new(7));
     wider(stored, &mut Rng::new(8));
     refused_planes(stored, &mut Rng::new(9));
 }
 
-/// Document 01's examples and the like, as far as they are inside the domain, on slices as all cases here have them.
+/// The examples of FORMAT 10 and the like, as far as they are inside the domain, with buffers that hold `EE`.
 fn examples(stored: &mut Pictures) {
     let cases = EXAMPLES.iter().map(|example| OwnedPicture::parse(example.0).expect("the table's own text"));
     for mut case in cases.filter(|case| case.view().refused_outside().is_none()) {
@@ -32,11 +32,11 @@ fn examples(stored: &mut Pictures) {
     }
 }
 
-fn random_level(rng: &mut Rng) -> u8 {
-    rng.within(1, 7) as u8
+fn random_level(rng: &mut Rng) -> u32 {
+    rng.within(1, 7) as u32
 }
 
-/// The forms of one picture, the level of AYCoCg chosen. ARGB is also said with a level and subsampling, which must not matter.
+/// The forms of one picture, the level of AYCoCg chosen. ARGB also has a level and subsampling, which must have no effect.
 fn forms(rng: &mut Rng) -> Vec<Form> {
     let mut forms: Vec<Form> = few_forms().collect();
     for form in &mut forms {
@@ -70,13 +70,13 @@ fn small_sides(stored: &mut Pictures, rng: &mut Rng) {
 }
 
 /// Raw rows of samples around which the colour rule changes.
-fn telling_colours(stored: &mut Pictures, rng: &mut Rng) {
+fn boundary_colours(stored: &mut Pictures, rng: &mut Rng) {
     const SAMPLES: [u8; 16] = [0, 1, 2, 31, 32, 63, 64, 65, 127, 128, 129, 191, 192, 193, 254, 255];
     for level in 1..=7 {
         for alpha in [false, true] {
             for _ in 0..8 {
                 let form = Form::aycocg(false, alpha, level, false);
-                let body: Vec<u8> = (0..form.least_body(16, 1)).map(|_| *rng.pick(&SAMPLES)).collect();
+                let body: Vec<u8> = (0..form.min_body(16, 1)).map(|_| *rng.pick(&SAMPLES)).collect();
                 stored.keep_somehow(form, (16, 1), &body);
             }
         }
@@ -87,22 +87,22 @@ fn telling_colours(stored: &mut Pictures, rng: &mut Rng) {
 fn body_lengths(stored: &mut Pictures, rng: &mut Rng) {
     for (width, height) in [(1, 1), (3, 2), (2, 5), (48, 1)] {
         for form in forms(rng) {
-            let mut body = Planes::with_looks(rng, form, (width, height), &[Look::Runs]).body(form, width, height);
-            let (least, whole) = (form.least_body(width, height), body.len());
+            let mut body = Planes::with_kinds(rng, form, (width, height), &[PlaneKind::Runs]).body(form, width, height);
+            let (min, complete) = (form.min_body(width, height), body.len());
             body.extend(rng.bytes(9));
-            for end in [0, least - 1, least, whole - 1, whole, whole + 1, whole + 9] {
+            for end in [0, min - 1, min, complete - 1, complete, complete + 1, complete + 9] {
                 stored.keep_somehow(form, (width, height), &body[..end]);
             }
         }
     }
 }
 
-/// RLE bodies cut at every place.
-fn cut_bodies(stored: &mut Pictures, rng: &mut Rng) {
+/// Every prefix of some RLE bodies.
+fn truncated_bodies(stored: &mut Pictures, rng: &mut Rng) {
     for (width, height) in [(1, 1), (2, 2), (3, 2), (5, 1), (17, 1)] {
         for form in forms(rng).into_iter().filter(|form| form.rle) {
-            let look = *rng.pick(&[Look::FewValues, Look::Noise]);
-            let body = Planes::with_looks(rng, form, (width, height), &[look]).body(form, width, height);
+            let plane_kind = *rng.pick(&[PlaneKind::FewValues, PlaneKind::Noise]);
+            let body = Planes::with_kinds(rng, form, (width, height), &[plane_kind]).body(form, width, height);
             for end in 0..=body.len() {
                 stored.keep_somehow(form, (width, height), &body[..end]);
             }
@@ -139,23 +139,23 @@ fn made_bodies(stored: &mut Pictures, rng: &mut Rng) {
     }
 }
 
-/// Widths around which a segment's counts change, of looks that take few characters.
+/// Widths around which a segment's counts change, of kinds that take few characters.
 fn wider(stored: &mut Pictures, rng: &mut Rng) {
     for width in WIDTHS {
         for form in forms(rng) {
             let height = rng.within(1, 2);
-            let looks = if width < 20 { &LOOKS[..] } else { &[Look::Runs, Look::FlatPage] };
-            let body = Planes::with_looks(rng, form, (width, height), looks).body(form, width, height);
+            let kinds = if width < 20 { &PLANE_KINDS[..] } else { &[PlaneKind::Runs, PlaneKind::FlatPage] };
+            let body = Planes::with_kinds(rng, form, (width, height), kinds).body(form, width, height);
             stored.keep_somehow(form, (width, height), &body);
         }
     }
 }
 
-/// Each plane in turn refused: by control byte 0, by a segment that overruns its row, at its start and at its last row's.
+/// One plane at a time refused: by control byte 0, by a segment that overruns its row, at its start and at its last row's.
 fn refused_planes(stored: &mut Pictures, rng: &mut Rng) {
     let (width, height) = (4, 2);
     for form in forms(rng).into_iter().filter(|form| form.rle) {
-        let bodies = Planes::with_looks(rng, form, (width, height), &[Look::Noise]).bodies(form, width, height);
+        let bodies = Planes::with_kinds(rng, form, (width, height), &[PlaneKind::Noise]).bodies(form, width, height);
         for plane in 0..bodies.len() {
             let last_row = segment_starts(&bodies[plane]).pop().unwrap_or(0);
             for (at, control) in [(0, 0x00), (0, 0x0F), (last_row, 0x00), (last_row, 0xF2)] {

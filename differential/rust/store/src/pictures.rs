@@ -39,15 +39,15 @@ impl Pictures {
         self.keep(form, sides, body, (more[0], more[1]));
     }
 
-    /// Asks IronRDP and keeps its answer. Bytes of the work area beyond the planes, which IronRDP would cut off, are those that
+    /// Asks IronRDP and keeps its answer. Bytes of the work area beyond the planes, which IronRDP would drop, are those that
     /// were there; so are bytes of the image beyond what it makes.
     pub fn keep_case(&mut self, case: &OwnedPicture) {
         assert_eq!(case.view().refused_outside(), None, "a case outside the domain");
         assert!(case.work.iter().chain(&case.image).all(|&byte| byte == BEFORE), "slices that hold something else");
         let (mut work, mut image) = (case.work.clone(), Vec::new());
-        let answer = case.view().by_rust(&mut work, &mut image).expect("a form that the Rust has");
+        let answer = case.view().by_ironrdp(&mut work, &mut image).expect("a form that IronRDP has");
         let Some(number) = answer.number() else {
-            panic!("the Rust answers {answer} inside the domain");
+            panic!("IronRDP answers {answer} inside the domain");
         };
         work.extend_from_slice(&case.work[work.len()..]);
         image.extend_from_slice(&case.image[image.len()..]);

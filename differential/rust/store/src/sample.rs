@@ -1,16 +1,16 @@
 //! Which cases of unpacking are stored: some around every boundary.
 
 use crate::Stored;
-use comparer::planes::{self, segment_starts, Look, Making, LOOKS, WIDTHS};
+use comparer::planes::{self, segment_starts, Making, PlaneKind, PLANE_KINDS, WIDTHS};
 use comparer::Rng;
 
-/// Every part in turn, each with numbers of its own, so that a change in one leaves the others as they are.
+/// All parts, each with random numbers of its own, so that a change in one leaves the others as they are.
 pub fn keep_all(stored: &mut Stored) {
     short_bodies(stored, &mut Rng::new(1));
     every_control_byte(stored, &mut Rng::new(2));
     refusals_at_every_place(stored, &mut Rng::new(3));
-    cut_packings(stored, &mut Rng::new(4));
-    whole_and_followed(stored, &mut Rng::new(5));
+    truncated_packings(stored, &mut Rng::new(4));
+    complete_and_followed(stored, &mut Rng::new(5));
     damaged_packings(stored, &mut Rng::new(6));
     made_bodies(stored, &mut Rng::new(7));
     wide_and_tall(stored, &mut Rng::new(8));
@@ -21,9 +21,9 @@ fn room(rng: &mut Rng, width: usize, height: usize) -> usize {
     width * height + *rng.pick(&[0, 0, 1, 2, 9])
 }
 
-fn packed(rng: &mut Rng, look: Look, width: usize, height: usize) -> Vec<u8> {
-    let plane = planes::samples(rng, look, width, height);
-    original::pack(&plane, width, height).expect("a whole plane with room")
+fn packed(rng: &mut Rng, plane_kind: PlaneKind, width: usize, height: usize) -> Vec<u8> {
+    let plane = planes::samples(rng, plane_kind, width, height);
+    original::pack(&plane, width, height).expect("a complete plane with room")
 }
 
 /// No byte, all single bytes, and some pairs.
@@ -79,11 +79,11 @@ fn refusals_at_every_place(stored: &mut Stored, rng: &mut Rng) {
     }
 }
 
-/// Packings of small planes, cut at every length.
-fn cut_packings(stored: &mut Stored, rng: &mut Rng) {
+/// Prefixes of packings of small planes, every one or some.
+fn truncated_packings(stored: &mut Stored, rng: &mut Rng) {
     for (width, height) in [(1, 4), (4, 3), (15, 2), (16, 2), (17, 2), (32, 2), (47, 2), (48, 2), (64, 2), (65, 1)] {
-        for look in LOOKS {
-            let body = packed(rng, look, width, height);
+        for plane_kind in PLANE_KINDS {
+            let body = packed(rng, plane_kind, width, height);
             for len in 0..=body.len() {
                 if body.len() < 60 || rng.once_in(3) {
                     stored.keep(width, height, room(rng, width, height), &body[..len]);
@@ -93,12 +93,12 @@ fn cut_packings(stored: &mut Stored, rng: &mut Rng) {
     }
 }
 
-/// Packings of every look at all the widths, whole, and with bytes following.
-fn whole_and_followed(stored: &mut Stored, rng: &mut Rng) {
+/// Packings of planes of every kind at all the widths, complete and with bytes following.
+fn complete_and_followed(stored: &mut Stored, rng: &mut Rng) {
     for width in WIDTHS {
-        for look in LOOKS {
+        for plane_kind in PLANE_KINDS {
             let height = rng.within(1, 4);
-            let mut body = packed(rng, look, width, height);
+            let mut body = packed(rng, plane_kind, width, height);
             stored.keep(width, height, room(rng, width, height), &body);
             let more = rng.within(1, 9);
             body.extend(rng.bytes(more));
@@ -111,8 +111,8 @@ fn whole_and_followed(stored: &mut Stored, rng: &mut Rng) {
 fn damaged_packings(stored: &mut Stored, rng: &mut Rng) {
     for _ in 0..500 {
         let (width, height) = (*rng.pick(&WIDTHS), rng.within(1, 4));
-        let look = *rng.pick(&LOOKS);
-        let mut body = packed(rng, look, width, height);
+        let plane_kind = *rng.pick(&PLANE_KINDS);
+        let mut body = packed(rng, plane_kind, width, height);
         for _ in 0..rng.within(1, 3) {
             let at = rng.below(body.len());
             body[at] = rng.byte();
@@ -131,16 +131,16 @@ fn made_bodies(stored: &mut Stored, rng: &mut Rng) {
     }
 }
 
-/// Planes at the longest sides, of looks that take few characters, and one tall plane that takes many.
+/// Planes at the longest sides, of kinds that take few characters, and one tall plane that takes many.
 fn wide_and_tall(stored: &mut Stored, rng: &mut Rng) {
     for width in [8191, 8192] {
         for height in 1..=2 {
-            let flat = original::pack(&vec![9; width * height], width, height).expect("a whole plane with room");
+            let flat = original::pack(&vec![9; width * height], width, height).expect("a complete plane with room");
             for len in [flat.len(), flat.len() - 1, flat.len() / 2, 1, 0] {
                 stored.keep(width, height, room(rng, width, height), &flat[..len]);
             }
             let steps: Vec<u8> = (0..width * height).map(|at| (at % width / 300 + at / width) as u8).collect();
-            let body = original::pack(&steps, width, height).expect("a whole plane with room");
+            let body = original::pack(&steps, width, height).expect("a complete plane with room");
             stored.keep(width, height, room(rng, width, height), &body);
             let zeros = [vec![0xF2; width / 47], vec![0x01, 0xF0], vec![0; 40]].concat();
             stored.keep(width, height, room(rng, width, height), &zeros);
@@ -152,7 +152,7 @@ fn wide_and_tall(stored: &mut Stored, rng: &mut Rng) {
     }
     for (width, height) in [(1, 8192), (2, 6000), (2, 8192)] {
         let plane: Vec<u8> = (0..width * height).map(|at| (at / width / 64) as u8).collect();
-        let body = original::pack(&plane, width, height).expect("a whole plane with room");
+        let body = original::pack(&plane, width, height).expect("a complete plane with room");
         stored.keep(width, height, width * height, &body[..body.len().min(18_001)]);
     }
 }

@@ -1,5 +1,5 @@
-//! Wrong functions, to show that the fuzzer finds them: the setting RDP6_WRONG names one. Without it the library is the port's.
-//! They have counters of edges, as the library has.
+//! Wrong functions, to show that the fuzzer finds them: the setting RDP6_WRONG names one. Without it the library is used as it is.
+//! They have counters of edges, like the library.
 
 use comparer::Library;
 use reliability::LIBRARY;
@@ -10,11 +10,11 @@ type Plane = (*const u8, usize, *mut u8, usize, usize, usize);
 
 /// The true answer.
 unsafe fn unpacked((src, len, dst, room, width, height): Plane) -> i64 {
-    // SAFETY: handed on.
+    // SAFETY: the arguments are passed on unchanged.
     unsafe { (LIBRARY.unpack)(src, len, dst, room, width, height) }
 }
 
-/// Whether a body begins with four bytes that chance finds once in 2^32 tries. A fuzzer that is told of comparisons finds them soon.
+/// Whether a body begins with four bytes that chance finds once in 2^32 tries. A fuzzer that sees comparisons finds them soon.
 unsafe fn is_rare(src: *const u8, len: usize) -> bool {
     // SAFETY: there are so many bytes.
     len > 4 && unsafe { src.cast::<u32>().read_unaligned() } == 0xC351_A72D
@@ -22,7 +22,7 @@ unsafe fn is_rare(src: *const u8, len: usize) -> bool {
 
 /// Answers one byte too many for a rare body.
 unsafe extern "C" fn answer(src: *const u8, len: usize, dst: *mut u8, room: usize, width: usize, height: usize) -> i64 {
-    // SAFETY: handed on.
+    // SAFETY: the arguments are passed on unchanged.
     unsafe { unpacked((src, len, dst, room, width, height)) + i64::from(is_rare(src, len)) }
 }
 

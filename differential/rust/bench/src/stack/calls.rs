@@ -1,12 +1,12 @@
-//! Calls of each C function that go deep: runs of many lengths, which the two writers of segments hand to each other, all forms, the
-//! widest rows, and refusals.
+//! Calls of each C function that use much stack: runs of many lengths, which the two writers of segments pass to each other, all
+//! forms, the widest rows, and refusals.
 
-use super::painted::depth;
+use super::depth::depth;
 use super::RETURN;
 use comparer::encoding::given::pixels;
 use comparer::encoding::Sources;
 use comparer::picture::{Form, Planes};
-use comparer::planes::Look;
+use comparer::planes::PlaneKind;
 use comparer::Rng;
 use std::hint::black_box;
 
@@ -24,14 +24,14 @@ type Bytes = *const u8;
 type Room = *mut u8;
 
 kind!(OfPlane, no_plane: (Bytes, usize, Room, usize, usize, usize) -> i64);
-kind!(Decode, no_decode: (bool, bool, u8, u8, bool, Bytes, usize, Room, usize, Room, usize, usize, usize) -> i64);
-kind!(WorkSize, no_work_size: (bool, u8, bool, usize, usize) -> usize);
+kind!(Decode, no_decode: (bool, bool, u32, u32, bool, Bytes, usize, Room, usize, Room, usize, usize, usize) -> i64);
+kind!(WorkSize, no_work_size: (bool, u32, bool, usize, usize) -> usize);
 kind!(ImageSize, no_image_size: (usize, usize) -> usize);
 kind!(OfPixels, no_pixels: (Bytes, usize, Room, usize, bool, usize, usize) -> i64);
 kind!(OfThree, no_three: (Bytes, usize, Bytes, usize, Bytes, usize, Room, usize, bool, usize, usize) -> i64);
 kind!(OfFour, no_four: (Bytes, usize, Bytes, usize, Bytes, usize, Bytes, usize, Room, usize, bool, usize, usize) -> i64);
 
-/// What a function is called with: a source, room for the output, and the sides that it is told.
+/// What a function is called with: a source, room for the output, and the sides that are passed.
 struct Case {
     form: Form,
     source: Vec<u8>,
@@ -64,18 +64,18 @@ impl Case {
     }
 }
 
-const LOOKS: [Look; 4] = [Look::Runs, Look::Noise, Look::FlatPage, Look::RowsAlike];
+const PLANE_KINDS: [PlaneKind; 4] = [PlaneKind::Runs, PlaneKind::Noise, PlaneKind::FlatPage, PlaneKind::RowsAlike];
 const WIDTHS: [usize; 10] = [1, 2, 16, 17, 20, 31, 32, 64, 1100, 8192];
 const HEIGHTS: [usize; 2] = [1, 3];
 
-/// Cases of every look at these sides, with their variations. What a source is made of is said by a function, and what room it needs
-/// at most for each pixel.
+/// Cases of every kind of plane at these sides, with their variations. `source` makes the source, and `room` is the room
+/// for each pixel.
 fn cases(form: Form, room: usize, source: impl Fn(&Planes, usize, usize) -> Vec<u8>) -> Vec<Case> {
     let rng = &mut Rng::new(1027);
     let mut cases = Vec::new();
     for (width, height) in WIDTHS.into_iter().flat_map(|width| HEIGHTS.map(|height| (width, height))) {
-        for look in LOOKS {
-            let planes = Planes::with_looks(rng, form, (width, height), &[look]);
+        for plane_kind in PLANE_KINDS {
+            let planes = Planes::with_kinds(rng, form, (width, height), &[plane_kind]);
             let (source, room) = (source(&planes, width, height), room * width * height + 1);
             cases.extend(Case { form, source, room, width, height }.variations());
         }
@@ -108,7 +108,7 @@ fn of_plane(function: OfPlane, room: usize, source: impl Fn(&[u8], usize, usize)
     let of_first = |planes: &Planes, width, height| source(&planes.colours[0], width, height);
     most(function, no_plane, &cases(Form::argb(true, false), room, of_first), |function, case, dst| {
         let (source, len) = case.part(0, 1);
-        // SAFETY: both slices are passed for the call, with their lengths.
+        // SAFETY: both slices are valid during the call, and their lengths are right.
         unsafe { function(source, len, dst.as_mut_ptr(), dst.len(), case.width, case.height) };
     })
 }
@@ -130,7 +130,7 @@ fn of_decode() -> usize {
         let (image, work) = room.split_at_mut(case.room / 2);
         let (image, image_len, work, work_len) = (image.as_mut_ptr(), image.len(), work.as_mut_ptr(), work.len());
         let (width, height) = (case.width, case.height);
-        // SAFETY: all slices are passed for the call, with their lengths.
+        // SAFETY: all slices are valid during the call, and their lengths are right.
         unsafe {
             function(
                 rle, alpha, definition, level, subsampled, body, body_len, work, work_len, image, image_len, width,
@@ -154,7 +154,7 @@ fn of_pixels(function: OfPixels, alpha: bool) -> usize {
     most(function, no_pixels, &cases, |function, case, dst| {
         let (source, len) = case.part(0, 1);
         let (at, room, rle) = (dst.as_mut_ptr(), dst.len(), case.form.rle);
-        // SAFETY: both slices are passed for the call, with their lengths.
+        // SAFETY: both slices are valid during the call, and their lengths are right.
         unsafe { function(source, len, at, room, rle, case.width, case.height) };
     })
 }
@@ -169,7 +169,7 @@ fn of_three() -> usize {
     most(function, no_three, &channel_cases(false), |function, case, dst| {
         let [(r, r_len), (g, g_len), (b, b_len)] = [0, 1, 2].map(|at| case.part(at, 3));
         let (at, room, rle) = (dst.as_mut_ptr(), dst.len(), case.form.rle);
-        // SAFETY: all slices are passed for the call, with their lengths.
+        // SAFETY: all slices are valid during the call, and their lengths are right.
         unsafe { function(r, r_len, g, g_len, b, b_len, at, room, rle, case.width, case.height) };
     })
 }
@@ -179,7 +179,7 @@ fn of_four() -> usize {
     most(function, no_four, &channel_cases(true), |function, case, dst| {
         let [(r, r_len), (g, g_len), (b, b_len), (a, a_len)] = [0, 1, 2, 3].map(|at| case.part(at, 4));
         let (at, room, rle) = (dst.as_mut_ptr(), dst.len(), case.form.rle);
-        // SAFETY: all slices are passed for the call, with their lengths.
+        // SAFETY: all slices are valid during the call, and their lengths are right.
         unsafe { function(r, r_len, g, g_len, b, b_len, a, a_len, at, room, rle, case.width, case.height) };
     })
 }
@@ -202,7 +202,8 @@ fn of_image_size() -> usize {
 
 /// Every C function with the most stack that it took.
 pub fn deepest() -> [(&'static str, usize); 9] {
-    let packed = |plane: &[u8], width, height| original::pack(plane, width, height).expect("a whole plane with room");
+    let packed =
+        |plane: &[u8], width, height| original::pack(plane, width, height).expect("a complete plane with room");
     [
         ("rdp6_decompress_8bpp_plane", of_plane(ours::rdp6_decompress_8bpp_plane, 1, packed)),
         ("rdp6_compress_8bpp_plane", of_plane(ours::rdp6_compress_8bpp_plane, 2, |plane, _, _| plane.to_vec())),

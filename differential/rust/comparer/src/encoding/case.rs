@@ -61,7 +61,7 @@ impl<Bytes: AsRef<[u8]>> Sources<Bytes> {
         }
     }
 
-    /// How many samples each source has; of pixels the whole ones.
+    /// How many samples each source has; of pixels the complete ones.
     pub fn counts(&self) -> impl Iterator<Item = usize> + '_ {
         self.slices().into_iter().map(|(slice, stride)| slice.len() / stride)
     }
@@ -88,7 +88,7 @@ impl<Bytes: AsRef<[u8]>> Sources<Bytes> {
 }
 
 impl<'a> Sources<&'a [u8]> {
-    /// The same with what becomes of each slice, which is given with the bytes that a sample takes in it.
+    /// The same with what becomes of each slice, which is passed with the bytes that a sample takes in it.
     pub fn map<Bytes>(self, mut change: impl FnMut(&'a [u8], usize) -> Bytes) -> Sources<Bytes> {
         match self {
             Sources::Channels { colours, alpha } => Sources::Channels {
@@ -131,7 +131,7 @@ pub struct Encoding<Bytes> {
 pub type OwnedEncoding = Encoding<Vec<u8>>;
 
 impl<Bytes: AsRef<[u8]>> Encoding<Bytes> {
-    /// Document 01's refusal before anything is read: 1, 2 and then 11.
+    /// The refusal before anything is read: 1, 2, then 11 (FORMAT 8).
     pub fn refused_at_entry(&self) -> Option<u8> {
         if self.width == 0 || self.height == 0 {
             Some(1)
@@ -157,7 +157,7 @@ impl<Bytes: AsRef<[u8]>> Encoding<Bytes> {
 }
 
 impl Encoding<&[u8]> {
-    /// The case that document 01 makes of one that is not refused at entry: each source has the first width times height
+    /// The case that is packed if nothing is refused at entry: each source has the first width times height
     /// samples. It is inside the domain.
     pub fn with_first_samples(self) -> Self {
         let samples = self.width * self.height;
@@ -165,7 +165,7 @@ impl Encoding<&[u8]> {
     }
 
     /// What IronRDP answers. `after` is its destination, which begins with a byte for the header.
-    pub fn by_rust(&self, after: &mut [u8]) -> Encoded {
+    pub fn by_ironrdp(&self, after: &mut [u8]) -> Encoded {
         let Encoding { width, height, rle, .. } = *self;
         match self.sources {
             Sources::Channels { colours, alpha } => {
@@ -243,7 +243,7 @@ mod tests {
     }
 
     #[test]
-    fn samples_of_whole_pixels() {
+    fn samples_of_complete_pixels() {
         let case = OwnedEncoding::parse("pb 2 1 0 1 0102030405060708AABBCC -").unwrap();
         let of = |channel| case.view().sources.samples(channel).collect::<Vec<u8>>();
         assert_eq!([Channel::R, Channel::G, Channel::B, Channel::A].map(of), [[3, 7], [2, 6], [1, 5], [4, 8]]);

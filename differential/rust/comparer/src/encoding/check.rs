@@ -1,13 +1,13 @@
-//! Compares one picture that is packed with what must become of it.
+//! Compares the packing of one picture.
 
 use crate::check::{answer_text, After, Comparer, Difference, Outcome};
 use crate::encoding::{round_trip, Encoding, OwnedEncoding, Sources};
+use crate::guarded::{Buffer, Side, SIDES};
 use crate::input::{Input, View};
-use crate::lend::{Loan, Side, SIDES};
-use crate::tally::{Judge, Kind};
+use crate::tally::{Kind, Reference};
 use original::{Answer, Definition, Header};
 
-/// `rdp6_encode_channels_stream` as a library has it: R, G, B, destination, RLE, width, height; bytes written, or minus the
+/// `rdp6_encode_channels_stream` as C declares it: R, G, B, destination, RLE, width, height; bytes written, or minus the
 /// refusal's number.
 pub type EncodeChannels = unsafe extern "C" fn(
     *const u8,
@@ -43,7 +43,7 @@ pub type EncodeChannelsAlpha = unsafe extern "C" fn(
 /// The same from pixels.
 pub type EncodeBitmap = unsafe extern "C" fn(*const u8, usize, *mut u8, usize, bool, usize, usize) -> i64;
 
-/// What a library has for packing pictures.
+/// The functions of a library that pack pictures.
 #[derive(Clone, Copy)]
 pub struct Encoders {
     pub channels: EncodeChannels,
@@ -64,7 +64,7 @@ impl Packed {
         &self.wanted[1..]
     }
 
-    /// What the destination must hold, as the case that was asked last has it.
+    /// What the destination must hold after the last case that was asked.
     pub(crate) fn wanted_after(&self) -> After {
         destination(self.wanted())
     }
@@ -84,7 +84,7 @@ fn destination(after: &[u8]) -> After {
     After(vec![("destination", after.to_vec())])
 }
 
-/// The record that document 01 has sent: RLE as asked, ARGB, and alpha false whatever the planes are.
+/// The header record of FORMAT 7.5: RLE as asked, ARGB, and alpha false whatever the planes are.
 pub fn record(rle: bool) -> Header {
     Header { rle, alpha: false, definition: Definition::Argb }
 }
@@ -95,20 +95,20 @@ impl Comparer {
         self.compare_encoding_at(kind, case, &SIDES)
     }
 
-    /// The same with the slices at these sides of their pages only, where both would take too long.
+    /// The same with the buffers at these sides of their pages only, where both would take too long.
     pub fn compare_encoding_at(&mut self, kind: Kind, case: Encoding<&[u8]>, sides: &[Side]) -> Outcome {
         let wanted = self.ask_encoding(case)?;
-        self.tally.count(kind, Judge::rust_if(case.is_inside()), &wanted);
-        self.hold_encoding(case, wanted, sides)
+        self.tally.count(kind, Reference::ironrdp_if(case.is_inside()), &wanted);
+        self.compare_encoder(case, wanted, sides)
     }
 
-    pub(crate) fn look_at_encoding(&mut self, case: &OwnedEncoding) -> Outcome {
+    pub(crate) fn check_encoding(&mut self, case: &OwnedEncoding) -> Outcome {
         let wanted = self.ask_encoding(case.view())?;
-        self.hold_encoding(case.view(), wanted, &SIDES)
+        self.compare_encoder(case.view(), wanted, &SIDES)
     }
 
-    /// What must be answered; `packed.wanted` gets what the destination must hold. Where there are samples too many document 01
-    /// says which are used, and IronRDP what they make. IronRDP itself is compared with the record that document 01 has sent.
+    /// The answer that is required; `packed.wanted` gets what the destination must hold. Where a source is longer than the picture,
+    /// IronRDP is asked with the samples that are used. The header that IronRDP writes is compared with `record`.
     pub(crate) fn ask_encoding(&mut self, case: Encoding<&[u8]>) -> Result<Answer, Box<Difference>> {
         let wanted = &mut self.packed.wanted;
         wanted.clear();
@@ -118,39 +118,39 @@ impl Comparer {
             return Ok(Answer::Refused(number));
         }
         let asked = if case.is_inside() { case } else { case.with_first_samples() };
-        let encoded = asked.by_rust(wanted);
+        let encoded = asked.by_ironrdp(wanted);
         if encoded.header == Some(record(case.rle)) {
             return Ok(encoded.answer);
         }
         let got = format!("{}, {:?}", encoded.answer, encoded.header);
         let after = || destination(case.before);
-        Err(self.unlike(case, "the record".to_owned(), encoded.answer, after(), ("the Rust", got, after())))
+        Err(self.unlike(case, "the record".to_owned(), encoded.answer, after(), ("IronRDP", got, after())))
     }
 
-    fn hold_encoding(&mut self, case: Encoding<&[u8]>, wanted: Answer, sides: &[Side]) -> Outcome {
+    fn compare_encoder(&mut self, case: Encoding<&[u8]>, wanted: Answer, sides: &[Side]) -> Outcome {
         for &side in sides {
             let (got, harm) = self.call_encoder(case, side);
             if let Some(reason) = harm.or_else(|| self.packed.fault(wanted.number() == Some(got))) {
                 let (wanted_after, got_after) = (destination(self.packed.wanted()), destination(&self.packed.got));
-                let got = ("the library", answer_text(got), got_after);
+                let got = ("rdp6", answer_text(got), got_after);
                 return Err(self.unlike(case, reason, wanted, wanted_after, got));
             }
         }
         match wanted {
-            Answer::Done(count) => self.hold_round_trip(case, count),
+            Answer::Done(count) => self.compare_round_trip(case, count),
             _ => Ok(()),
         }
     }
 
-    /// What the library wrote must be unpacked to what went in.
-    fn hold_round_trip(&mut self, case: Encoding<&[u8]>, count: usize) -> Outcome {
+    /// What the library wrote must be unpacked to the samples that were packed.
+    fn compare_round_trip(&mut self, case: Encoding<&[u8]>, count: usize) -> Outcome {
         self.tally.unpacked_again += 1;
         let Some(wrong) = round_trip::wrong(case, &self.packed.got[..count]) else {
             return Ok(());
         };
         let reason = format!("the {} unpacked again", wrong.name);
         let [wanted_after, got_after] = [wrong.wanted, wrong.got].map(|bytes| After(vec![(wrong.name, bytes)]));
-        let got = ("the library, unpacked by the Rust", wrong.answer.to_string(), got_after);
+        let got = ("rdp6, unpacked by IronRDP", wrong.answer.to_string(), got_after);
         Err(self.unlike(case, reason, Answer::Done(count), wanted_after, got))
     }
 
@@ -160,10 +160,10 @@ impl Comparer {
         reason: String,
         wanted: Answer,
         wanted_after: After,
-        (whose, got, got_after): (&'static str, String, After),
+        (side, got, got_after): (&'static str, String, After),
     ) -> Box<Difference> {
         let case = Input::Encoding(case.to_owned());
-        Box::new(Difference { case, reason, wanted, wanted_after, whose, got, got_after })
+        Box::new(Difference { case, reason, wanted, wanted_after, side, got, got_after })
     }
 
     fn call_encoder(&mut self, case: Encoding<&[u8]>, side: Side) -> (i64, Option<String>) {
@@ -177,15 +177,15 @@ impl Comparer {
     fn call_channels(&mut self, case: Encoding<&[u8]>, [r, g, b]: [&[u8]; 3], side: Side) -> (i64, Option<String>) {
         let Encoding { width, height, rle, before, .. } = case;
         let encode = self.library.encoders.channels;
-        let loans = [
-            Loan::read("samples of R", r),
-            Loan::read("samples of G", g),
-            Loan::read("samples of B", b),
-            Loan::written("destination", before, &mut self.packed.got),
+        let buffers = [
+            Buffer::read("samples of R", r),
+            Buffer::read("samples of G", g),
+            Buffer::read("samples of B", b),
+            Buffer::written("destination", before, &mut self.packed.got),
         ];
         let lens = [r, g, b].map(<[u8]>::len);
-        // SAFETY: all are passed for this call. That it keeps to them is what is tested.
-        self.lender.call(View::Encoding(case), side, loans, |[r, g, b, dst]| unsafe {
+        // SAFETY: all buffers are valid during the call. That it stays inside them is tested.
+        self.memory.call(View::Encoding(case), side, buffers, |[r, g, b, dst]| unsafe {
             encode(r, lens[0], g, lens[1], b, lens[2], dst, before.len(), rle, width, height)
         })
     }
@@ -199,16 +199,16 @@ impl Comparer {
     ) -> (i64, Option<String>) {
         let Encoding { width, height, rle, before, .. } = case;
         let encode = self.library.encoders.channels_alpha;
-        let loans = [
-            Loan::read("samples of R", r),
-            Loan::read("samples of G", g),
-            Loan::read("samples of B", b),
-            Loan::read("samples of A", a),
-            Loan::written("destination", before, &mut self.packed.got),
+        let buffers = [
+            Buffer::read("samples of R", r),
+            Buffer::read("samples of G", g),
+            Buffer::read("samples of B", b),
+            Buffer::read("samples of A", a),
+            Buffer::written("destination", before, &mut self.packed.got),
         ];
         let lens = [r, g, b, a].map(<[u8]>::len);
-        // SAFETY: all are passed for this call. That it keeps to them is what is tested.
-        self.lender.call(View::Encoding(case), side, loans, |[r, g, b, a, dst]| unsafe {
+        // SAFETY: all buffers are valid during the call. That it stays inside them is tested.
+        self.memory.call(View::Encoding(case), side, buffers, |[r, g, b, a, dst]| unsafe {
             encode(r, lens[0], g, lens[1], b, lens[2], a, lens[3], dst, before.len(), rle, width, height)
         })
     }
@@ -217,10 +217,10 @@ impl Comparer {
         let Encoding { width, height, rle, before, .. } = case;
         let encoders = self.library.encoders;
         let encode = if alpha { encoders.bitmap_alpha } else { encoders.bitmap };
-        let loans = [Loan::read("pixels", pixels), Loan::written("destination", before, &mut self.packed.got)];
+        let buffers = [Buffer::read("pixels", pixels), Buffer::written("destination", before, &mut self.packed.got)];
         let len = pixels.len();
-        // SAFETY: both are passed for this call. That it keeps to them is what is tested.
-        self.lender.call(View::Encoding(case), side, loans, |[pixels, dst]| unsafe {
+        // SAFETY: both buffers are valid during the call. That it stays inside them is tested.
+        self.memory.call(View::Encoding(case), side, buffers, |[pixels, dst]| unsafe {
             encode(pixels, len, dst, before.len(), rle, width, height)
         })
     }

@@ -1,4 +1,4 @@
-//! Pictures that document 01 decides in its section on packing, and what it says of them.
+//! Small inputs of picture packing with their answers by FORMAT 7 and 8.
 
 use crate::check::{Comparer, Outcome};
 use crate::encoding::OwnedEncoding;
@@ -28,7 +28,7 @@ pub const EXAMPLES: [Example; 40] = [
     ("pb 1 1 0 0 01020304 EE*3", -12, "EEEEEE"),
     ("pb 1 1 0 1 01020304 EE*4", -12, "EE*4"),
     ("pb 1 1 0 0 01020304 -", -12, "-"),
-    // RLE leaves the whole segments of all planes before the one that does not fit.
+    // RLE leaves the complete segments of all planes before the one that does not fit.
     ("pb 1 1 1 0 01020304 EE*5", -12, "10031002EE"),
     ("pb 1 1 1 0 01020304 EE*4", -12, "10031002"),
     ("pb 1 1 1 0 01020304 EE*3", -12, "1003EE"),
@@ -44,7 +44,7 @@ pub const EXAMPLES: [Example; 40] = [
     ("pc 2 1 0 01 020304 0506 none EE*9", -11, "EE*9"),
     ("pb 1 1 0 0 010203 EE*4", -11, "EE*4"),
     ("pb 2 1 1 1 01020304050607 -", -11, "-"),
-    // Of a longer source the first width times height are used; bytes that make no whole pixel are not looked at.
+    // Of a longer source the first width times height are used; bytes that make no complete pixel are not read.
     ("pc 2 1 0 010203 0405 0607 none EE*8", 7, "01020405060700EE"),
     ("pc 2 1 0 010203 0405 0607 none EE*7", 7, "01020405060700"),
     ("pc 2 1 0 010203 0405 0607 none EE*6", -12, "EE*6"),
@@ -72,17 +72,17 @@ mod tests {
     use crate::bytes;
     use crate::encoding::OwnedEncoding;
 
-    /// The expected results are written here: IronRDP inside the domain, document 01's order and its first samples outside.
+    /// IronRDP inside the domain, and the order of FORMAT 8 outside, give the answers of the table.
     #[test]
-    fn examples_are_judged_so() {
+    fn examples_have_these_answers() {
         for (text, answer, after) in EXAMPLES {
             let case = OwnedEncoding::parse(text).unwrap();
-            let mut judged_after = [&[0], &case.before[..]].concat();
-            let judged = match case.refused_at_entry() {
+            let mut after_call = [&[0], &case.before[..]].concat();
+            let expected = match case.refused_at_entry() {
                 Some(number) => -i64::from(number),
-                None => case.view().with_first_samples().by_rust(&mut judged_after).answer.number().unwrap(),
+                None => case.view().with_first_samples().by_ironrdp(&mut after_call).answer.number().unwrap(),
             };
-            assert_eq!((judged, bytes::text(&judged_after[1..])), (answer, after.to_owned()), "{text}");
+            assert_eq!((expected, bytes::text(&after_call[1..])), (answer, after.to_owned()), "{text}");
         }
     }
 }

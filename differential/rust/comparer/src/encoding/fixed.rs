@@ -4,11 +4,11 @@ use crate::case::MAX_SIDE;
 use crate::check::{Comparer, Outcome};
 use crate::encoding::given::{self, both, given, ALPHAS, FORMS};
 use crate::encoding::{examples, refused, Encoding, Sources};
-use crate::lend::SIDES as BOTH_SIDES;
+use crate::guarded::SIDES as BOTH_SIDES;
+use crate::packing::boundary;
 use crate::packing::fixed::TWO_VALUES;
-use crate::packing::telling;
 use crate::picture::Planes;
-use crate::planes::{Earlier, Look, LOOKS};
+use crate::planes::{Earlier, PlaneKind, PLANE_KINDS};
 use crate::rng::Rng;
 use crate::strings::each_string;
 use crate::tally::Kind;
@@ -26,7 +26,7 @@ pub fn run_quick(comparer: &mut Comparer) -> Outcome {
     refused::run(comparer, earlier)?;
     small_pictures(comparer, earlier)?;
     telling_pictures(comparer, earlier)?;
-    looks(comparer, earlier)?;
+    kinds(comparer, earlier)?;
     long_sides(comparer, earlier)
 }
 
@@ -78,7 +78,7 @@ fn small_pictures(comparer: &mut Comparer, earlier: &mut Earlier) -> Outcome {
 
 /// Planes whose packing passes every boundary of the rules, three or four neighbours of them as one picture.
 fn telling_pictures(comparer: &mut Comparer, earlier: &mut Earlier) -> Outcome {
-    let mut planes = telling::planes();
+    let mut planes = boundary::planes();
     planes.sort();
     for (at, same) in planes.chunk_by(|left, right| left.0 == right.0 && left.1 == right.1).enumerate() {
         let sides = (same[0].0, same[0].1);
@@ -87,18 +87,20 @@ fn telling_pictures(comparer: &mut Comparer, earlier: &mut Earlier) -> Outcome {
             let mut next = || samples.next().expect("four planes");
             let colours = [next(), next(), next()];
             let planes = Planes { colours, alpha: (at % 2 == 0).then(next) };
-            in_all_rooms(comparer, earlier, Kind::EncodingTelling, sides, &planes, FEWER_SEGMENTS)?;
+            in_all_rooms(comparer, earlier, Kind::EncodingBoundary, sides, &planes, FEWER_SEGMENTS)?;
         }
     }
     Ok(())
 }
 
-/// Every look at sides around which a segment's counts change: rooms at the end of each segment of each plane.
-fn looks(comparer: &mut Comparer, earlier: &mut Earlier) -> Outcome {
+/// Planes of every kind at sides around which a segment's counts change: rooms at the end of each segment of each plane.
+fn kinds(comparer: &mut Comparer, earlier: &mut Earlier) -> Outcome {
     let rng = &mut Rng::new(35);
     for sides in [(4, 2), (5, 5), (15, 1), (16, 2), (17, 3), (32, 1), (33, 2), (47, 1), (48, 2), (64, 1), (65, 3)] {
-        for (look, alpha) in LOOKS.into_iter().flat_map(|look| ALPHAS.map(|alpha| (look, alpha))) {
-            let planes = Planes::with_looks(rng, given::form(alpha), sides, &[look]);
+        for (plane_kind, alpha) in
+            PLANE_KINDS.into_iter().flat_map(|plane_kind| ALPHAS.map(|alpha| (plane_kind, alpha)))
+        {
+            let planes = Planes::with_kinds(rng, given::form(alpha), sides, &[plane_kind]);
             in_all_rooms(comparer, earlier, Kind::EncodingRooms, sides, &planes, SEGMENTS)?;
         }
     }
@@ -111,7 +113,7 @@ fn long_sides(comparer: &mut Comparer, earlier: &mut Earlier) -> Outcome {
     let rng = &mut Rng::new(36);
     for side in [MAX_SIDE - 1, MAX_SIDE] {
         for (sides, alpha) in [(side, 1), (1, side), (side, 2), (side, 9)].into_iter().zip([true, false, false, true]) {
-            let planes = Planes::with_looks(rng, given::form(alpha), sides, &[Look::Runs, Look::FlatPage]);
+            let planes = Planes::with_kinds(rng, given::form(alpha), sides, &[PlaneKind::Runs, PlaneKind::FlatPage]);
             in_all_rooms(comparer, earlier, Kind::EncodingLongSides, sides, &planes, FEWER_SEGMENTS)?;
             for (owned, rle) in both(&planes).iter().flat_map(|owned| FORMS.map(|rle| (owned, rle))) {
                 let short = owned.view().map(|slice, _| &slice[..slice.len() - 1]);
@@ -122,7 +124,7 @@ fn long_sides(comparer: &mut Comparer, earlier: &mut Earlier) -> Outcome {
     Ok(())
 }
 
-/// The largest picture that there is, raw, from pixels: with just the room that it needs, and with one byte less. It is passed at
+/// The largest picture, raw, from pixels: with just the room that it needs, and with one byte less. It is passed at
 /// one side of its pages each time.
 fn largest(comparer: &mut Comparer) -> Outcome {
     let (width, height) = (MAX_SIDE, MAX_SIDE);

@@ -47,8 +47,8 @@ impl Encoding<&[u8]> {
     /// What IronRDP makes of the first width times height samples if there is room. Nothing is refused at entry.
     pub fn packing(self) -> Vec<u8> {
         let mut after = vec![0; 2 + self.sources.planes() * longest_packing(self.width, self.height)];
-        let encoded = self.with_first_samples().by_rust(&mut after);
-        let count = encoded.answer.number().expect("whole planes with room");
+        let encoded = self.with_first_samples().by_ironrdp(&mut after);
+        let count = encoded.answer.number().expect("complete planes with room");
         after.drain(1..).take(usize::try_from(count).expect("a count")).collect()
     }
 

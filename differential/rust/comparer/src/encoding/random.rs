@@ -109,7 +109,7 @@ impl Random {
         [slice, &self.rng.bytes(more)].concat()
     }
 
-    /// Sides of which one at least is refused.
+    /// Sides of which at least one is refused.
     fn outside(&mut self, comparer: &mut Comparer) -> Outcome {
         for _ in 0..8 {
             let sides = planes::sides_outside(&mut self.rng);

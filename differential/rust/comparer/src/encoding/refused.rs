@@ -1,7 +1,7 @@
 //! The part of the fixed cases that is about the tests before anything is read, 1, 2 and 11, their limits and their order; and
 //! about sources that are longer than the picture.
 
-use crate::case::{MAX_SIDE, TELLING_SIDES};
+use crate::case::{BOUNDARY_SIDES, MAX_SIDE};
 use crate::check::{Comparer, Outcome};
 use crate::encoding::case::STRIDE;
 use crate::encoding::given::{self, both, given, ALPHAS, FORMS};
@@ -29,11 +29,11 @@ fn of_every_entry(noise: &[u8], len: usize) -> [Sources<&[u8]>; 4] {
     ]
 }
 
-/// Sides of which one at least is refused, or that ask for more than any source: also those whose product does not fit a word,
+/// Sides of which at least one is refused, or that need more than any source has: also those whose product does not fit a word,
 /// or wraps to a small number.
 fn table_of_sides(comparer: &mut Comparer, earlier: &mut Earlier) -> Outcome {
     let noise = Rng::new(31).bytes(5000);
-    for sides in TELLING_SIDES.into_iter().flat_map(|width| TELLING_SIDES.map(|height| (width, height))) {
+    for sides in BOUNDARY_SIDES.into_iter().flat_map(|width| BOUNDARY_SIDES.map(|height| (width, height))) {
         for len in [0, 1, 3, 4, 9, 64, 4096] {
             for sources in of_every_entry(&noise, len) {
                 for (rle, room) in FORMS.into_iter().flat_map(|rle| [0, 1, 20, 200].map(|room| (rle, room))) {
@@ -81,7 +81,7 @@ fn in_all_sides(comparer: &mut Comparer, earlier: &mut Earlier, case: Encoding<&
 /// The sides of the pictures whose sources have other lengths.
 const SIDES: [(usize, usize); 8] = [(1, 1), (2, 1), (1, 2), (3, 2), (2, 5), (17, 1), (16, 3), (48, 2)];
 
-/// Sources that are short, exact and long, each in turn and all of them, with room and without.
+/// Sources that are short, exact and long, one of them and all of them, with room and without.
 fn sources(comparer: &mut Comparer, earlier: &mut Earlier) -> Outcome {
     let rng = &mut Rng::new(33);
     for (sides, alpha) in SIDES.into_iter().flat_map(|sides| ALPHAS.map(|alpha| (sides, alpha))) {
@@ -103,7 +103,7 @@ fn sources(comparer: &mut Comparer, earlier: &mut Earlier) -> Outcome {
     Ok(())
 }
 
-/// Each source in turn with none, half, one less, all, one more and some more of so many samples, cut from longer ones.
+/// One source at a time with none, half, one less, all, one more and some more of so many samples.
 fn with_other_lengths<'a>(
     sources: Sources<&'a [u8]>,
     longer: &'a Sources<Vec<u8>>,
@@ -139,12 +139,12 @@ fn with_rooms(
 fn pixel_slices(comparer: &mut Comparer, earlier: &mut Earlier) -> Outcome {
     let rng = &mut Rng::new(34);
     for ((width, height), alpha) in SIDES.into_iter().flat_map(|sides| ALPHAS.map(|alpha| (sides, alpha))) {
-        let whole = STRIDE * width * height;
-        let noise = rng.bytes(whole + 2 * STRIDE);
-        for len in whole.saturating_sub(2 * STRIDE)..whole + 2 * STRIDE {
+        let complete = STRIDE * width * height;
+        let noise = rng.bytes(complete + 2 * STRIDE);
+        for len in complete.saturating_sub(2 * STRIDE)..complete + 2 * STRIDE {
             let sources = Sources::Pixels { pixels: &noise[..len], alpha };
             for rle in FORMS {
-                let exact = Sources::Pixels { pixels: &noise[..whole], alpha };
+                let exact = Sources::Pixels { pixels: &noise[..complete], alpha };
                 let needed = given(rle, (width, height), exact).packing().len();
                 for room in [0, needed - 1, needed, needed + 9] {
                     let case = given(rle, (width, height), sources);

@@ -3,7 +3,7 @@
 use crate::encoding::{Channel, Encoding};
 use original::{Answer, Definition, Header};
 
-/// What does not come back as it went in.
+/// A plane that is not unpacked to what was packed.
 pub struct Wrong {
     pub name: &'static str,
     pub answer: Answer,
@@ -11,8 +11,8 @@ pub struct Wrong {
     pub got: Vec<u8>,
 }
 
-/// What is wrong with a body, if anything. The header says that there is alpha if there is: the record that document 01 has sent
-/// says false, which the decoder could not know to be wrong.
+/// What is wrong with a body, if anything. The header here has the alpha flag of the planes: with the record of FORMAT 7.5, whose flag
+/// is false, four planes cannot be unpacked.
 pub fn wrong(case: Encoding<&[u8]>, body: &[u8]) -> Option<Wrong> {
     let Encoding { width, height, rle, sources, .. } = case;
     let [r, g, b, a] =

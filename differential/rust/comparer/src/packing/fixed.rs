@@ -1,11 +1,11 @@
 //! The part that is the same in every run: all small planes, boundary rows, all destination lengths, the refused sides.
 
-use crate::case::{Case, MAX_SIDE, TELLING_SIDES};
+use crate::case::{Case, BOUNDARY_SIDES, MAX_SIDE};
 use crate::check::{Comparer, Outcome};
-use crate::lend::SIDES as BOTH_SIDES;
+use crate::guarded::SIDES as BOTH_SIDES;
+use crate::packing::boundary;
 use crate::packing::rooms::rooms;
-use crate::packing::telling;
-use crate::planes::{self, Earlier, Look, LOOKS};
+use crate::planes::{self, Earlier, PlaneKind, PLANE_KINDS};
 use crate::rng::Rng;
 use crate::strings::each_string;
 use crate::tally::Kind;
@@ -25,8 +25,8 @@ pub fn run(comparer: &mut Comparer) -> Outcome {
     each_plane(&FOUR_VALUES, 6, &mut |width, height, samples| {
         in_all_rooms(comparer, earlier, Kind::SmallPlanes, (width, height), samples)
     })?;
-    for (width, height, samples) in telling::planes() {
-        in_all_rooms(comparer, earlier, Kind::TellingRows, (width, height), &samples)?;
+    for (width, height, samples) in boundary::planes() {
+        in_all_rooms(comparer, earlier, Kind::BoundaryRows, (width, height), &samples)?;
     }
     long_sides(comparer, earlier)?;
     largest_plane(comparer, earlier)
@@ -50,7 +50,7 @@ fn in_all_rooms(
     (width, height): (usize, usize),
     samples: &[u8],
 ) -> Outcome {
-    let packing = original::pack(samples, width, height).expect("a whole plane with room");
+    let packing = original::pack(samples, width, height).expect("a complete plane with room");
     for room in rooms(&packing) {
         comparer.compare(kind, Case::pack(width, height, samples, earlier.bytes(room)))?;
     }
@@ -62,7 +62,7 @@ fn sources(comparer: &mut Comparer, earlier: &mut Earlier) -> Outcome {
     each_plane(&TWO_VALUES, 8, &mut |width, height, samples| {
         with_other_sources(comparer, earlier, (width, height), samples)
     })?;
-    for (width, height, samples) in telling::planes().into_iter().step_by(5) {
+    for (width, height, samples) in boundary::planes().into_iter().step_by(5) {
         with_other_sources(comparer, earlier, (width, height), &samples)?;
     }
     Ok(())
@@ -74,7 +74,7 @@ fn with_other_sources(
     (width, height): (usize, usize),
     samples: &[u8],
 ) -> Outcome {
-    let packed = original::pack(samples, width, height).expect("a whole plane with room").len();
+    let packed = original::pack(samples, width, height).expect("a complete plane with room").len();
     let last = samples[samples.len() - 1];
     let longer = [samples, &[last, last, last, last, 1, 2, 3, 4, 5]].concat();
     for len in [0, samples.len() / 2, samples.len() - 1, samples.len() + 1, longer.len()] {
@@ -85,12 +85,12 @@ fn with_other_sources(
     Ok(())
 }
 
-/// Sides of which one at least is refused, or that ask for more than any source: also those whose product does not fit a
+/// Sides of which at least one is refused, or that need more than any source has: also those whose product does not fit a
 /// word, or wraps to a small number.
 fn refused_sides(comparer: &mut Comparer, earlier: &mut Earlier) -> Outcome {
     let source = Rng::new(11).bytes(5000);
-    for width in TELLING_SIDES {
-        for height in TELLING_SIDES {
+    for width in BOUNDARY_SIDES {
+        for height in BOUNDARY_SIDES {
             for len in [0, 1, 2, 9, 64, 4096, 5000] {
                 for room in [0, 1, 2, 40] {
                     let case = Case::pack(width, height, &source[..len], earlier.bytes(room));
@@ -102,24 +102,24 @@ fn refused_sides(comparer: &mut Comparer, earlier: &mut Earlier) -> Outcome {
     Ok(())
 }
 
-/// Rows and columns of 8,191 and 8,192, of one value and of every look.
+/// Rows and columns of 8,191 and 8,192, of one value and of every kind.
 fn long_sides(comparer: &mut Comparer, earlier: &mut Earlier) -> Outcome {
     let rng = &mut Rng::new(12);
     for side in [MAX_SIDE - 1, MAX_SIDE] {
         for sides in [(side, 1), (side, 2), (1, side)] {
             let flat = vec![9; sides.0 * sides.1];
             in_all_rooms(comparer, earlier, Kind::LongSides, sides, &flat)?;
-            for look in LOOKS {
-                let samples = planes::samples(rng, look, sides.0, sides.1);
+            for plane_kind in PLANE_KINDS {
+                let samples = planes::samples(rng, plane_kind, sides.0, sides.1);
                 in_all_rooms(comparer, earlier, Kind::LongSides, sides, &samples)?;
             }
         }
     }
-    let samples = planes::samples(rng, Look::Runs, 3, MAX_SIDE);
+    let samples = planes::samples(rng, PlaneKind::Runs, 3, MAX_SIDE);
     in_all_rooms(comparer, earlier, Kind::LongSides, (3, MAX_SIDE), &samples)
 }
 
-/// The largest plane that there is: with just the room that it needs, and with one byte less. It is passed at one side of its
+/// The largest plane: with just the room that it needs, and with one byte less. It is passed at one side of its
 /// pages each time.
 fn largest_plane(comparer: &mut Comparer, earlier: &mut Earlier) -> Outcome {
     let (width, height) = (MAX_SIDE, MAX_SIDE);
@@ -129,7 +129,7 @@ fn largest_plane(comparer: &mut Comparer, earlier: &mut Earlier) -> Outcome {
         samples.extend(first.iter().map(|value| value.wrapping_add(row as u8)));
     }
     // Every row under the first is one more than the row above throughout, so that all of them have one packing.
-    let [first, two] = [1, 2].map(|rows| original::pack(&samples, width, rows).expect("whole rows with room").len());
+    let [first, two] = [1, 2].map(|rows| original::pack(&samples, width, rows).expect("complete rows with room").len());
     let packed = first + (height - 1) * (two - first);
     for (room, side) in [packed, packed - 1].into_iter().zip(BOTH_SIDES) {
         let case = Case::pack(width, height, &samples, earlier.bytes(room));

@@ -2,7 +2,7 @@
 
 use crate::case::Case;
 use crate::check::{Comparer, Outcome};
-use crate::planes::{self, segment_starts, Earlier, LOOKS};
+use crate::planes::{self, segment_starts, Earlier, PLANE_KINDS};
 use crate::rng::Rng;
 use crate::tally::Kind;
 
@@ -25,12 +25,12 @@ impl Random {
         }
     }
 
-    /// A plane of some look with several rooms, then with sources of other lengths.
+    /// A plane of some kind with several rooms, then with sources of other lengths.
     fn plane(&mut self, comparer: &mut Comparer) -> Outcome {
         let (width, height) = planes::sides(&mut self.rng);
-        let look = *self.rng.pick(&LOOKS);
-        let samples = planes::samples(&mut self.rng, look, width, height);
-        let packing = original::pack(&samples, width, height).expect("a whole plane with room");
+        let plane_kind = *self.rng.pick(&PLANE_KINDS);
+        let samples = planes::samples(&mut self.rng, plane_kind, width, height);
+        let packing = original::pack(&samples, width, height).expect("a complete plane with room");
         let starts = segment_starts(&packing);
         for room in [packing.len(), packing.len() + 1, packing.len() + self.rng.within(2, 5000)] {
             comparer.compare(Kind::RandomPlanes, Case::pack(width, height, &samples, self.earlier.bytes(room)))?;
@@ -72,7 +72,7 @@ impl Random {
         Ok(())
     }
 
-    /// Sides of which one at least is refused.
+    /// Sides of which at least one is refused.
     fn outside(&mut self, comparer: &mut Comparer) -> Outcome {
         for _ in 0..8 {
             let (width, height) = planes::sides_outside(&mut self.rng);

@@ -4,7 +4,7 @@ use crate::planes::segment_starts;
 
 /// Packings up to this length are tried with every room.
 const EVERY_ROOM: usize = 24;
-/// Of longer ones no more segments than this are looked at, of very long ones fewer.
+/// Of longer ones no more segments than this are used, of very long ones fewer.
 const SEGMENTS: usize = 24;
 const VERY_LONG: usize = 500;
 const FEWER_SEGMENTS: usize = 3;

@@ -5,21 +5,21 @@ use crate::case::MAX_SIDE;
 use original::{Answer, Definition, Header};
 use std::fmt;
 
-pub const ARGB: u8 = 0;
-pub const AYCOCG: u8 = 1;
+pub const ARGB: u32 = 0;
+pub const AYCOCG: u32 = 1;
 
 /// The longest row that one byte of an RLE plane can stand for.
 const LONGEST_SEGMENT: usize = 47;
 
-/// How a picture is coded, as a call says it.
+/// How a picture is coded, as a call passes it.
 #[derive(Clone, Copy, Debug, PartialEq, Eq)]
 pub struct Form {
     pub rle: bool,
     pub alpha: bool,
-    /// `ARGB` or `AYCOCG`; there is no other, but a caller can say one.
-    pub definition: u8,
-    /// Loss level and subsampling are of AYCoCg. With ARGB a caller can say anything.
-    pub level: u8,
+    /// `ARGB` or `AYCOCG`. Any other number is an unknown definition.
+    pub definition: u32,
+    /// Loss level and subsampling belong to AYCoCg. With ARGB they can be anything and have no effect.
+    pub level: u32,
     pub subsampled: bool,
 }
 
@@ -28,11 +28,11 @@ impl Form {
         Form { rle, alpha, definition: ARGB, level: 0, subsampled: false }
     }
 
-    pub fn aycocg(rle: bool, alpha: bool, level: u8, subsampled: bool) -> Self {
+    pub fn aycocg(rle: bool, alpha: bool, level: u32, subsampled: bool) -> Self {
         Form { rle, alpha, definition: AYCOCG, level, subsampled }
     }
 
-    /// Document 01's refusal 3. A definition that there is not is refused so too.
+    /// Refusal 3: a loss level of 0 or over 7 with AYCoCg, or an unknown definition.
     pub fn is_refused(&self) -> bool {
         self.definition != ARGB && !(self.definition == AYCOCG && (1..=7).contains(&self.level))
     }
@@ -66,21 +66,24 @@ impl Form {
         }
     }
 
-    /// The shortest body that escapes refusal 4. The sides are inside the domain.
-    pub fn least_body(&self, width: usize, height: usize) -> usize {
+    /// The minimum size of the body. The sides are inside the domain.
+    pub fn min_body(&self, width: usize, height: usize) -> usize {
         let alpha = usize::from(self.alpha);
         if !self.rle {
             return alpha * width * height + self.colour_samples(width, height);
         }
-        let least_plane = |(width, height): (usize, usize)| height * width.div_ceil(LONGEST_SEGMENT);
-        (alpha + 1) * least_plane((width, height)) + 2 * least_plane(self.chroma_sides(width, height))
+        let min_plane = |(width, height): (usize, usize)| height * width.div_ceil(LONGEST_SEGMENT);
+        (alpha + 1) * min_plane((width, height)) + 2 * min_plane(self.chroma_sides(width, height))
     }
 
-    /// The same in IronRDP's words, which have no other definition.
+    /// The same as IronRDP's header, if that can express it: it has two definitions, and its level is a byte.
     pub fn header(&self) -> Option<Header> {
         let definition = match self.definition {
             ARGB => Definition::Argb,
-            AYCOCG => Definition::AYCoCg { loss_level: self.level, subsampled: self.subsampled },
+            AYCOCG => {
+                let loss_level = u8::try_from(self.level).ok()?;
+                Definition::AYCoCg { loss_level, subsampled: self.subsampled }
+            }
             _ => return None,
         };
         Some(Header { rle: self.rle, alpha: self.alpha, definition })
@@ -145,8 +148,8 @@ pub struct OwnedPicture {
 }
 
 impl Picture<'_> {
-    /// Document 01's refusal outside its domain, in its order: 1, 2, 3, and if the work area or the image is short, 4 of the
-    /// body, then 5 or 6. `None` is inside the domain: IronRDP is asked, for 4 too.
+    /// The refusal outside the domain, in the order of FORMAT 8: 1, 2, 3, and if the work area or the image is short, 4 of the
+    /// body, then 5 or 6. `None` is inside the domain: there IronRDP is the reference, for 4 too.
     pub fn refused_outside(&self) -> Option<u8> {
         let (width, height, form) = (self.width, self.height, self.form);
         if width == 0 || height == 0 {
@@ -162,15 +165,15 @@ impl Picture<'_> {
         let short_image = self.image.len() < 3 * width * height;
         match (short_work, short_image) {
             (false, false) => None,
-            _ if self.body.len() < form.least_body(width, height) => Some(4),
+            _ if self.body.len() < form.min_body(width, height) => Some(4),
             (true, _) => Some(5),
             (false, true) => Some(6),
         }
     }
 
-    /// What IronRDP answers, if it has this form. `work` is its work area, which it may make longer or shorter; what it makes
-    /// is appended to `image`.
-    pub fn by_rust(&self, work: &mut Vec<u8>, image: &mut Vec<u8>) -> Option<Answer> {
+    /// What IronRDP answers, if its header can express this form. `work` is its work area, which it may make longer or shorter;
+    /// the pixels are appended to `image`.
+    pub fn by_ironrdp(&self, work: &mut Vec<u8>, image: &mut Vec<u8>) -> Option<Answer> {
         let header = self.form.header()?;
         Some(original::decode(header, self.body, work, image, self.width, self.height))
     }
@@ -234,10 +237,15 @@ mod tests {
             "iu 2 3 0 1 argb:3:1 - - EE*18",
             "iu 2 3 1 1 7:1 00*4 EE*10 EE*18",
             "iu 2 3 1 0 255:7:0 - - -",
+            "iu 2 3 1 0 4294967295:0 - - -",
+            "iu 2 3 1 0 4294967295:4294967295:0 - - -",
         ] {
             assert_eq!(OwnedPicture::parse(text).unwrap().to_string(), text);
         }
         assert_eq!(OwnedPicture::parse("iu 1 1 2 0 argb - - -"), None);
         assert_eq!(OwnedPicture::parse("iu 1 1 1 0 1:2 - - -"), None);
+        assert_eq!(OwnedPicture::parse("iu 1 1 1 0 4294967296:0 - - -"), None);
+        assert_eq!(OwnedPicture::parse("iu 1 1 1 0 4294967296:1:0 - - -"), None);
+        assert_eq!(OwnedPicture::parse("iu 1 1 1 0 -1:0 - - -"), None);
     }
 }

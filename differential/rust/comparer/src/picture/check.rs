@@ -1,20 +1,20 @@
-//! Compares one picture with what must become of it.
+//! Compares the unpacking of one picture.
 
 use crate::check::{answer_text, After, Comparer, Outcome};
+use crate::guarded::{Buffer, Side, SIDES};
 use crate::input::{Input, View};
-use crate::lend::{Loan, Side, SIDES};
 use crate::picture::{OwnedPicture, Picture, Sizes};
-use crate::tally::{Judge, Kind};
+use crate::tally::{Kind, Reference};
 use crate::Difference;
 use original::Answer;
 
-/// A picture decoder as a library has it: RLE, alpha, definition, loss level, subsampling; body, work area, image; width,
+/// A picture decoder as C declares it: RLE, alpha, definition, loss level, subsampling; body, work area, image; width,
 /// height; bytes of the image, or minus the refusal's number.
 pub type Decode = unsafe extern "C" fn(
     bool,
     bool,
-    u8,
-    u8,
+    u32,
+    u32,
     bool,
     *const u8,
     usize,
@@ -27,12 +27,12 @@ pub type Decode = unsafe extern "C" fn(
 ) -> i64;
 
 /// The length of the work area: RLE, definition, subsampling, width, height.
-pub type WorkSize = unsafe extern "C" fn(bool, u8, bool, usize, usize) -> usize;
+pub type WorkSize = unsafe extern "C" fn(bool, u32, bool, usize, usize) -> usize;
 
 /// The length of the image: width, height.
 pub type ImageSize = unsafe extern "C" fn(usize, usize) -> usize;
 
-/// What a library has for pictures.
+/// The functions of a library that unpack pictures.
 #[derive(Clone, Copy)]
 pub struct Pictures {
     pub decode: Decode,
@@ -40,7 +40,7 @@ pub struct Pictures {
     pub image_size: ImageSize,
 }
 
-/// The two slices that a decoder writes to.
+/// The two buffers that a decoder writes.
 #[derive(Default)]
 struct Written {
     work: Vec<u8>,
@@ -58,21 +58,21 @@ impl Written {
 pub(crate) struct Afters {
     wanted: Written,
     got: Written,
-    /// The image that IronRDP makes.
+    /// The image of IronRDP.
     made: Vec<u8>,
 }
 
 impl Afters {
-    /// What the two must hold, as the case that was asked last has it.
+    /// What the two must hold after the last case that was asked.
     pub(crate) fn wanted(&self) -> After {
         self.wanted.after()
     }
 
-    /// Asks IronRDP. It gets the whole work area and may give back a shorter one, behind which nothing has changed; its image
-    /// is what it appends, and the rest of ours is as it was.
-    fn ask_rust(&mut self, case: Picture<'_>) -> Answer {
+    /// Asks IronRDP. It gets the entire work area and may return a shorter one: the library must leave the bytes behind that
+    /// unchanged. Its image is what it appends: the library must leave the bytes behind that unchanged too.
+    fn ask_ironrdp(&mut self, case: Picture<'_>) -> Answer {
         self.made.clear();
-        let answer = case.by_rust(&mut self.wanted.work, &mut self.made).expect("a form that the Rust has");
+        let answer = case.by_ironrdp(&mut self.wanted.work, &mut self.made).expect("a form that IronRDP has");
         let kept = self.wanted.work.len();
         self.wanted.work.extend_from_slice(case.work.get(kept..).unwrap_or(&[]));
         self.wanted.image.clear();
@@ -101,26 +101,26 @@ impl Comparer {
         self.compare_picture_at(kind, case, &SIDES)
     }
 
-    /// The same with the slices at these sides of their pages only, where both would take too long.
+    /// The same with the buffers at these sides of their pages only, where both would take too long.
     pub fn compare_picture_at(&mut self, kind: Kind, case: Picture<'_>, sides: &[Side]) -> Outcome {
-        let judge = Judge::rust_if(case.refused_outside().is_none());
+        let reference = Reference::ironrdp_if(case.refused_outside().is_none());
         let wanted = self.ask_picture(case);
-        self.tally.count(kind, judge, &wanted);
-        self.hold_picture(case, wanted, sides)
+        self.tally.count(kind, reference, &wanted);
+        self.compare_decoder(case, wanted, sides)
     }
 
-    pub(crate) fn look_at_picture(&mut self, case: &OwnedPicture) -> Outcome {
+    pub(crate) fn check_picture(&mut self, case: &OwnedPicture) -> Outcome {
         let wanted = self.ask_picture(case.view());
-        self.hold_picture(case.view(), wanted, &SIDES)
+        self.compare_decoder(case.view(), wanted, &SIDES)
     }
 
-    /// What must be answered; `afters.wanted` gets what the slices must hold.
+    /// The answer that is required; `afters.wanted` gets what the buffers must hold.
     pub(crate) fn ask_picture(&mut self, case: Picture<'_>) -> Answer {
         let wanted = &mut self.afters.wanted;
         wanted.work.clear();
         wanted.work.extend_from_slice(case.work);
         match case.refused_outside() {
-            None => self.afters.ask_rust(case),
+            None => self.afters.ask_ironrdp(case),
             Some(number) => {
                 wanted.image.clear();
                 wanted.image.extend_from_slice(case.image);
@@ -129,7 +129,7 @@ impl Comparer {
         }
     }
 
-    fn hold_picture(&mut self, case: Picture<'_>, wanted: Answer, sides: &[Side]) -> Outcome {
+    fn compare_decoder(&mut self, case: Picture<'_>, wanted: Answer, sides: &[Side]) -> Outcome {
         for &side in sides {
             let (got, harm) = self.call_decoder(case, side);
             if let Some(reason) = harm.or_else(|| self.afters.fault(wanted.number() == Some(got))) {
@@ -138,7 +138,7 @@ impl Comparer {
                     reason,
                     wanted,
                     wanted_after: self.afters.wanted.after(),
-                    whose: "the library",
+                    side: "rdp6",
                     got: answer_text(got),
                     got_after: self.afters.got.after(),
                 }));
@@ -150,14 +150,14 @@ impl Comparer {
     fn call_decoder(&mut self, case: Picture<'_>, side: Side) -> (i64, Option<String>) {
         let Picture { width, height, form, body, work, image } = case;
         let decode = self.library.pictures.decode;
-        let loans = [
-            Loan::read("body", body),
-            Loan::written("work area", work, &mut self.afters.got.work),
-            Loan::written("image", image, &mut self.afters.got.image),
+        let buffers = [
+            Buffer::read("body", body),
+            Buffer::written("work area", work, &mut self.afters.got.work),
+            Buffer::written("image", image, &mut self.afters.got.image),
         ];
         let [body_len, work_len, image_len] = [body.len(), work.len(), image.len()];
-        // SAFETY: all three are passed for this call. That it keeps to them is what is tested.
-        self.lender.call(View::Picture(case), side, loans, |[body, work, image]| unsafe {
+        // SAFETY: all three buffers are valid during the call. That it stays inside them is tested.
+        self.memory.call(View::Picture(case), side, buffers, |[body, work, image]| unsafe {
             decode(
                 form.rle,
                 form.alpha,
@@ -176,13 +176,13 @@ impl Comparer {
         })
     }
 
-    /// Compares what both sizes are said to be, and counts it.
+    /// Compares both sizes, and counts the case.
     pub fn compare_sizes(&mut self, kind: Kind, case: Sizes) -> Outcome {
-        self.tally.count(kind, Judge::Document, &Answer::Done(case.work()));
-        self.look_at_sizes(&case)
+        self.tally.count(kind, Reference::Format, &Answer::Done(case.work()));
+        self.check_sizes(&case)
     }
 
-    pub(crate) fn look_at_sizes(&mut self, case: &Sizes) -> Outcome {
+    pub(crate) fn check_sizes(&mut self, case: &Sizes) -> Outcome {
         let Pictures { work_size, image_size, .. } = self.library.pictures;
         let Sizes { width, height, rle, definition, subsampled } = *case;
         // SAFETY: no pointer is passed.
@@ -197,7 +197,7 @@ impl Comparer {
                     reason: name.to_owned(),
                     wanted: Answer::Done(wanted),
                     wanted_after: After(Vec::new()),
-                    whose: "the library",
+                    side: "rdp6",
                     got: format!("{got} bytes"),
                     got_after: After(Vec::new()),
                 }));

@@ -1,7 +1,7 @@
 //! Every Y, Co and Cg at every loss level: raw pictures of 4,096 x 4,096, one pixel for each.
 
 use crate::check::{Comparer, Outcome};
-use crate::lend::{Side, SIDES as BOTH_SIDES};
+use crate::guarded::{Side, SIDES as BOTH_SIDES};
 use crate::picture::{Form, Picture};
 use crate::rng::Rng;
 use crate::tally::Kind;
@@ -30,7 +30,7 @@ impl Colours {
         Colours { side, body, work: rng.bytes(5), image }
     }
 
-    fn compare(&self, comparer: &mut Comparer, alpha: bool, level: u8, side: Side) -> Outcome {
+    fn compare(&self, comparer: &mut Comparer, alpha: bool, level: u32, side: Side) -> Outcome {
         let form = Form::aycocg(false, alpha, level, false);
         let body = if alpha { &self.body[..] } else { &self.body[self.side * self.side..] };
         let (width, height) = (self.side, self.side);
@@ -39,13 +39,13 @@ impl Colours {
     }
 }
 
-/// Each level with all colours, with alpha and without in turn, and the other way round with every 17th Cg. The slices lie at
+/// Each level with all colours, with alpha and without by turns, and the other way round with every 17th Cg. The buffers lie at
 /// one side of their pages each time.
 pub fn run(comparer: &mut Comparer) -> Outcome {
     let (all, some) = (Colours::new(4096, 1), Colours::new(1024, 17));
     for level in 1..=7 {
         let alpha = level % 2 == 1;
-        let side = BOTH_SIDES[usize::from(level) / 2 % 2];
+        let side = BOTH_SIDES[level as usize / 2 % 2];
         some.compare(comparer, !alpha, level, side)?;
         all.compare(comparer, alpha, level, side)?;
     }

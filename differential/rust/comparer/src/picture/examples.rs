@@ -1,4 +1,4 @@
-//! Pictures that document 01 speaks of, and what it says of them.
+//! The pictures of FORMAT 10, and other small inputs of unpacking with their answers by FORMAT 8.
 
 use crate::check::{Comparer, Outcome};
 use crate::picture::OwnedPicture;
@@ -7,7 +7,7 @@ use crate::tally::Kind;
 /// A case, its answer as a library gives it, and its image after the call.
 type Example = (&'static str, i64, &'static str);
 
-/// By document 01's numbers, where it has one. The pictures of 15 and 16 are of one pixel here, in every form.
+/// With the numbers of FORMAT 10, where there is one. The pictures of 15 and 16 have one pixel here, in every form.
 #[rustfmt::skip]
 pub const EXAMPLES: [Example; 29] = [
     // 15: loss 1, Y 100, Co 10, Cg 20.
@@ -21,7 +21,7 @@ pub const EXAMPLES: [Example; 29] = [
     ("iu 1 1 0 1 2:0 FF644000 - EEEEEE", 3, "0064E4"),
     ("iu 1 1 0 1 2:1 FF644000 - EEEEEE", 3, "0064E4"),
     ("iu 1 1 1 1 2:0 10FF106410401000 EEEEEE EEEEEE", 3, "0064E4"),
-    // 17: 3 bytes are enough for a row of 47, 6 for one of 48; 2 and 5 are not. 6 bytes need not be a whole body.
+    // 17: 3 bytes are enough for a row of 47, 6 for one of 48; 2 and 5 are not. 6 bytes need not be a complete body.
     ("iu 47 1 1 0 argb F2F2F2 EE*141 EE*141", 141, "00*141"),
     ("iu 47 1 1 0 argb F2F2 EE*141 EE*141", -4, "EE*141"),
     ("iu 48 1 1 0 argb 020102010201 EE*144 EE*144", 144, "00*144"),
@@ -36,16 +36,16 @@ pub const EXAMPLES: [Example; 29] = [
     ("iu 2 2 1 0 1:1 2001022002041003100A EE*5 EE*12", -5, "EE*12"),
     ("iu 2 2 1 0 1:0 03*6 EE*12 EE*12", -9, "EE*12"),
     ("iu 2 2 1 0 1:0 03*6 EE*11 EE*12", -5, "EE*12"),
-    // A body is not looked into if the work area or the image is short.
+    // A body is not read if the work area or the image is short.
     ("iu 1 1 1 0 argb 000000 - -", -5, "-"),
     ("iu 1 1 1 0 argb 000000 EEEEEE -", -6, "-"),
     ("iu 1 1 1 0 argb 000000 EEEEEE EEEEEE", -8, "EEEEEE"),
     ("iu 1 1 1 0 argb 0000 - -", -4, "-"),
-    // A level is looked at before the body.
+    // A level is checked before the body.
     ("iu 1 1 1 1 0:0 - - -", -3, "-"),
     ("iu 1 1 1 1 8:0 00*4 EEEEEE EEEEEE", -3, "EEEEEE"),
     ("iu 1 1 0 0 2:1:0 000000 - EEEEEE", -3, "EEEEEE"),
-    // ARGB has neither level nor subsampling, whatever is said of them.
+    // ARGB has neither level nor subsampling, whatever is passed.
     ("iu 2 2 0 0 argb:9:1 00*4,01*4,02*4 - EE*12", 12, "000102000102000102000102"),
 ];
 
@@ -63,18 +63,18 @@ mod tests {
     use crate::bytes;
     use crate::picture::OwnedPicture;
 
-    /// The expected results are written here: IronRDP inside the domain, document 01's order outside.
+    /// IronRDP inside the domain, and the order of FORMAT 8 outside, give the answers of the table.
     #[test]
-    fn examples_are_judged_so() {
+    fn examples_have_these_answers() {
         for (text, answer, image) in EXAMPLES {
             let case = OwnedPicture::parse(text).unwrap();
             let mut made = Vec::new();
-            let judged = match case.view().refused_outside() {
+            let expected = match case.view().refused_outside() {
                 Some(number) => -i64::from(number),
-                None => case.view().by_rust(&mut case.work.clone(), &mut made).unwrap().number().unwrap(),
+                None => case.view().by_ironrdp(&mut case.work.clone(), &mut made).unwrap().number().unwrap(),
             };
             made.extend_from_slice(&case.image[made.len()..]);
-            assert_eq!((judged, bytes::text(&made)), (answer, image.to_owned()), "{text}");
+            assert_eq!((expected, bytes::text(&made)), (answer, image.to_owned()), "{text}");
         }
     }
 }

@@ -1,13 +1,13 @@
-//! The part that is the same in every run: refusals, all forms at small sides, cut and damaged bodies, all colours, the longest
+//! The part that is the same in every run: refusals, all forms at small sides, truncated and damaged bodies, all colours, the longest
 //! sides.
 
 use crate::case::MAX_SIDE;
 use crate::check::{Comparer, Outcome};
-use crate::lend::SIDES as BOTH_SIDES;
+use crate::guarded::SIDES as BOTH_SIDES;
 use crate::picture::planes::{Befores, Sent};
 use crate::picture::refused::{few_forms, FLAGS};
 use crate::picture::{colours, examples, refused, sizes, Form, Picture, Planes};
-use crate::planes::Look;
+use crate::planes::PlaneKind;
 use crate::rng::Rng;
 use crate::tally::Kind;
 
@@ -29,7 +29,7 @@ pub fn run_quick(comparer: &mut Comparer) -> Outcome {
     refused::run(comparer, befores)?;
     small_sides(comparer, befores)?;
     all_widths(comparer, befores)?;
-    cut_and_damaged(comparer, befores)?;
+    truncated_and_damaged(comparer, befores)?;
     long_sides(comparer, befores)
 }
 
@@ -68,15 +68,15 @@ fn all_widths(comparer: &mut Comparer, befores: &mut Befores) -> Outcome {
     Ok(())
 }
 
-/// Small RLE pictures: every cut, every byte changed.
-fn cut_and_damaged(comparer: &mut Comparer, befores: &mut Befores) -> Outcome {
+/// Small RLE pictures: every prefix, every byte changed.
+fn truncated_and_damaged(comparer: &mut Comparer, befores: &mut Befores) -> Outcome {
     let rng = &mut Rng::new(27);
     for (width, height) in [(1, 1), (2, 1), (1, 2), (2, 2), (3, 2), (5, 3), (9, 4), (17, 2), (48, 1)] {
         for form in few_forms().filter(|form| form.rle) {
-            for look in [Look::Noise, Look::FewValues, Look::Runs] {
-                let body = Planes::with_looks(rng, form, (width, height), &[look]).body(form, width, height);
+            for plane_kind in [PlaneKind::Noise, PlaneKind::FewValues, PlaneKind::Runs] {
+                let body = Planes::with_kinds(rng, form, (width, height), &[plane_kind]).body(form, width, height);
                 let sent = Sent { width, height, form, body: &body };
-                every_cut(comparer, befores, sent)?;
+                every_prefix(comparer, befores, sent)?;
                 every_damage(comparer, befores, rng, sent)?;
             }
         }
@@ -84,15 +84,15 @@ fn cut_and_damaged(comparer: &mut Comparer, befores: &mut Befores) -> Outcome {
     Ok(())
 }
 
-fn every_cut(comparer: &mut Comparer, befores: &mut Befores, sent: Sent<'_>) -> Outcome {
+fn every_prefix(comparer: &mut Comparer, befores: &mut Befores, sent: Sent<'_>) -> Outcome {
     for end in 0..=sent.body.len() {
-        let cut = sent.with_body(&sent.body[..end]);
-        befores.compare_longer(comparer, Kind::PictureCut, cut, (end % 3, end % 2))?;
+        let prefix = sent.with_body(&sent.body[..end]);
+        befores.compare_longer(comparer, Kind::PictureTruncated, prefix, (end % 3, end % 2))?;
     }
     Ok(())
 }
 
-/// Each byte in turn changed to all other values, or to some.
+/// One byte at a time changed to all other values, or to some.
 fn every_damage(comparer: &mut Comparer, befores: &mut Befores, rng: &mut Rng, sent: Sent<'_>) -> Outcome {
     let mut body = sent.body.to_vec();
     for at in 0..body.len() {
@@ -112,7 +112,7 @@ fn every_damage(comparer: &mut Comparer, befores: &mut Befores, rng: &mut Rng, s
     Ok(())
 }
 
-/// Rows and columns of 8,191 and 8,192: whole, the body cut by one byte, and each slice short by one.
+/// Rows and columns of 8,191 and 8,192: complete, the body one byte short, and each buffer one byte short.
 fn long_sides(comparer: &mut Comparer, befores: &mut Befores) -> Outcome {
     let rng = &mut Rng::new(28);
     for side in [MAX_SIDE - 1, MAX_SIDE] {
@@ -132,7 +132,7 @@ fn long_sides(comparer: &mut Comparer, befores: &mut Befores) -> Outcome {
     Ok(())
 }
 
-/// The largest pictures that there are: a raw one with alpha and smaller chroma planes, a flat one in RLE. The slices lie at one
+/// The largest pictures: a raw one with alpha and smaller chroma planes, a flat one in RLE. The slices lie at one
 /// side of their pages each time.
 fn largest(comparer: &mut Comparer) -> Outcome {
     let (width, height) = (MAX_SIDE, MAX_SIDE);
@@ -144,7 +144,7 @@ fn largest(comparer: &mut Comparer) -> Outcome {
     };
     let image = long(3 * width * height);
     let form = Form::aycocg(false, true, 3, true);
-    let body = long(form.least_body(width, height));
+    let body = long(form.min_body(width, height));
     let raw = Picture { width, height, form, body: &body, work: &[], image: &image };
     comparer.compare_picture_at(Kind::PictureLargest, raw, &BOTH_SIDES[..1])?;
     let form = Form::argb(true, true);
@@ -157,6 +157,6 @@ fn largest(comparer: &mut Comparer) -> Outcome {
 /// The packing of a plane of one value. All rows under the first have the same bytes.
 fn flat_plane(value: u8, width: usize, height: usize) -> Vec<u8> {
     let [first, two] =
-        [1, 2].map(|rows| original::pack(&vec![value; rows * width], width, rows).expect("whole rows with room"));
+        [1, 2].map(|rows| original::pack(&vec![value; rows * width], width, rows).expect("complete rows with room"));
     [&first[..], &two[first.len()..].repeat(height - 1)].concat()
 }

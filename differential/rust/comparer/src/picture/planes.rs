@@ -3,7 +3,7 @@
 use crate::case::MAX_SIDE;
 use crate::check::{Comparer, Outcome};
 use crate::picture::{Form, OwnedPicture, Picture};
-use crate::planes::{self, Earlier, Look, LOOKS};
+use crate::planes::{self, Earlier, PlaneKind, PLANE_KINDS};
 use crate::rng::Rng;
 use crate::tally::Kind;
 
@@ -15,17 +15,17 @@ pub struct Planes {
 }
 
 impl Planes {
-    /// Planes of looks of their own.
+    /// Planes, each of some kind.
     pub fn random(rng: &mut Rng, form: Form, width: usize, height: usize) -> Planes {
-        Planes::with_looks(rng, form, (width, height), &LOOKS)
+        Planes::with_kinds(rng, form, (width, height), &PLANE_KINDS)
     }
 
-    /// Planes each of which has one of these looks.
-    pub fn with_looks(rng: &mut Rng, form: Form, (width, height): (usize, usize), looks: &[Look]) -> Planes {
+    /// Planes, each of one of these kinds.
+    pub fn with_kinds(rng: &mut Rng, form: Form, (width, height): (usize, usize), kinds: &[PlaneKind]) -> Planes {
         let (chroma_width, chroma_height) = form.chroma_sides(width, height);
         let mut plane = |width, height| {
-            let look = *rng.pick(looks);
-            planes::samples(rng, look, width, height)
+            let plane_kind = *rng.pick(kinds);
+            planes::samples(rng, plane_kind, width, height)
         };
         Planes {
             alpha: form.alpha.then(|| plane(width, height)),
@@ -41,7 +41,7 @@ impl Planes {
     /// The part of the body that each plane makes, packed by IronRDP if it is RLE.
     pub fn bodies(&self, form: Form, width: usize, height: usize) -> Vec<Vec<u8>> {
         let packed = |(plane, (width, height)): (&[u8], (usize, usize))| match form.rle {
-            true => original::pack(plane, width, height).expect("a whole plane with room"),
+            true => original::pack(plane, width, height).expect("a complete plane with room"),
             false => plane.to_vec(),
         };
         self.with_sides(form, width, height).map(packed).collect()
@@ -58,7 +58,7 @@ impl Planes {
         full.chain([second, third].map(|plane| (&plane[..], form.chroma_sides(width, height))))
     }
 
-    /// The planes of a case whose body is whole, and what follows them in the body.
+    /// The planes of a case whose body is complete, and what follows them in the body.
     pub fn of(case: &OwnedPicture) -> Option<(Planes, Vec<u8>)> {
         let (width, height, form) = (case.width, case.height, case.form);
         let sides = 1..=MAX_SIDE;
@@ -78,7 +78,7 @@ impl Planes {
     }
 }
 
-/// The plane that a body begins with, if it is whole, and how many bytes it takes.
+/// The plane that a body begins with, if it is complete, and how many bytes it takes.
 fn first_plane(body: &[u8], rle: bool, width: usize, height: usize) -> Option<(Vec<u8>, usize)> {
     let samples = width * height;
     if !rle {
@@ -89,7 +89,7 @@ fn first_plane(body: &[u8], rle: bool, width: usize, height: usize) -> Option<(V
     Some((plane, usize::try_from(read).ok()?))
 }
 
-/// What is handed over of a picture: its sides, its form and its body.
+/// A picture as it is sent: its sides, its form and its body.
 #[derive(Clone, Copy)]
 pub struct Sent<'a> {
     pub width: usize,

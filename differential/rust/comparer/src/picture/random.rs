@@ -8,8 +8,8 @@ use crate::planes::{self, Making};
 use crate::rng::Rng;
 use crate::tally::Kind;
 
-/// RLE bodies up to this length are cut at every place, others at some.
-const CUT_EVERYWHERE: usize = 60;
+/// Of RLE bodies up to this length every prefix is unpacked, of others some.
+const EVERY_LENGTH: usize = 60;
 
 /// Random cases from one seed.
 pub struct Random {
@@ -32,13 +32,13 @@ impl Random {
         }
     }
 
-    /// A form inside the domain. With ARGB a level and subsampling are sometimes said, which must not matter.
+    /// A form inside the domain. With ARGB a level and subsampling are sometimes passed, which must have no effect.
     fn form(&mut self) -> Form {
         let (rle, alpha) = (!self.rng.once_in(4), self.rng.once_in(2));
         match self.rng.below(8) {
             0 | 1 => Form::argb(rle, alpha),
-            2 => Form { rle, alpha, definition: ARGB, level: self.rng.byte(), subsampled: self.rng.once_in(2) },
-            _ => Form::aycocg(rle, alpha, self.rng.within(1, 7) as u8, self.rng.once_in(2)),
+            2 => Form { rle, alpha, definition: ARGB, level: self.any_number(), subsampled: self.rng.once_in(2) },
+            _ => Form::aycocg(rle, alpha, self.rng.within(1, 7) as u32, self.rng.once_in(2)),
         }
     }
 
@@ -56,7 +56,7 @@ impl Random {
         self.befores.compare_longer(comparer, kind, sent, more)
     }
 
-    /// A picture that IronRDP packs: whole, with bytes following, cut, damaged, in slices of other lengths.
+    /// A picture that IronRDP packs: complete, with bytes following, truncated, damaged, in buffers of other lengths.
     fn picture(&mut self, comparer: &mut Comparer) -> Outcome {
         let (width, height) = planes::sides(&mut self.rng);
         let form = self.form();
@@ -67,24 +67,23 @@ impl Random {
         let more = self.rng.within(1, 40);
         let following = [&body[..], &self.rng.bytes(more)].concat();
         self.compare(comparer, Kind::RandomFollowing, sent.with_body(&following))?;
-        self.cut(comparer, sent)?;
+        self.truncated(comparer, sent)?;
         self.damaged(comparer, sent)?;
         self.other_lengths(comparer, sent)
     }
 
     /// The first bytes of a body.
-    fn cut(&mut self, comparer: &mut Comparer, sent: Sent<'_>) -> Outcome {
+    fn truncated(&mut self, comparer: &mut Comparer, sent: Sent<'_>) -> Outcome {
         let len = sent.body.len();
-        if sent.form.rle && len <= CUT_EVERYWHERE {
+        if sent.form.rle && len <= EVERY_LENGTH {
             for end in 0..len {
-                self.compare(comparer, Kind::RandomCut, sent.with_body(&sent.body[..end]))?;
+                self.compare(comparer, Kind::RandomTruncated, sent.with_body(&sent.body[..end]))?;
             }
             return Ok(());
         }
-        for end in
-            [len - 1, sent.form.least_body(sent.width, sent.height) - 1, self.rng.below(len), self.rng.below(len)]
+        for end in [len - 1, sent.form.min_body(sent.width, sent.height) - 1, self.rng.below(len), self.rng.below(len)]
         {
-            self.compare(comparer, Kind::RandomCut, sent.with_body(&sent.body[..end]))?;
+            self.compare(comparer, Kind::RandomTruncated, sent.with_body(&sent.body[..end]))?;
         }
         Ok(())
     }
@@ -108,7 +107,7 @@ impl Random {
         Ok(())
     }
 
-    /// The body whole or cut, in slices that are short by one, or by more, or long enough.
+    /// The body complete or truncated, in buffers that are short by one, or by more, or long enough.
     fn other_lengths(&mut self, comparer: &mut Comparer, sent: Sent<'_>) -> Outcome {
         let needs = sent.needs();
         for _ in 0..6 {
@@ -127,7 +126,7 @@ impl Random {
         }
     }
 
-    /// RLE planes made segment by segment, mostly right; also cut.
+    /// RLE planes made segment by segment, mostly right; also truncated.
     fn made(&mut self, comparer: &mut Comparer) -> Outcome {
         let (width, height) = planes::sides(&mut self.rng);
         let form = Form { rle: true, ..self.form() };
@@ -160,7 +159,7 @@ impl Random {
         Ok(())
     }
 
-    /// Sides of which one at least is refused; or levels and definitions that are.
+    /// Sides of which at least one is refused; or levels and definitions that are.
     fn outside(&mut self, comparer: &mut Comparer) -> Outcome {
         for _ in 0..8 {
             let (len, room) = (self.rng.within(0, 40), (self.rng.within(0, 100), self.rng.within(0, 100)));
@@ -176,10 +175,25 @@ impl Random {
         Ok(())
     }
 
+    /// Any number: of a byte; one that is small if it is truncated to one byte or two; or any.
+    fn any_number(&mut self) -> u32 {
+        let low = self.rng.below(9) as u32;
+        match self.rng.below(8) {
+            0..=2 => u32::from(self.rng.byte()),
+            3 | 4 => (self.rng.within(1, 255) as u32) << 8 | low,
+            5 => (self.rng.within(1, 65_535) as u32) << 16 | low,
+            6 => u32::MAX - low,
+            _ => self.rng.word() as u32,
+        }
+    }
+
     /// A form with a loss level or a definition that is refused.
     fn refused_form(&mut self) -> Form {
-        let level = *self.rng.pick(&[0, 0, 8, 8, 9, 128, 255]);
-        let other = self.rng.within(2, 255) as u8;
+        let level = match self.rng.below(12) {
+            0..=5 => *self.rng.pick(&[0, 0, 8, 8, 9, 128, 255]),
+            _ => self.any_number().max(8),
+        };
+        let other = self.any_number().max(2);
         match self.rng.below(3) {
             0 => Form { definition: other, ..self.form() },
             1 => Form { definition: other, level, ..self.form() },

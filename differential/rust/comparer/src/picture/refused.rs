@@ -1,6 +1,6 @@
 //! The part of the fixed cases that is about refusals before anything is read: 1 to 6, their limits and their order.
 
-use crate::case::{MAX_SIDE, TELLING_SIDES};
+use crate::case::{BOUNDARY_SIDES, MAX_SIDE};
 use crate::check::{Comparer, Outcome};
 use crate::picture::case::{ARGB, AYCOCG};
 use crate::picture::planes::{Befores, Sent};
@@ -16,6 +16,13 @@ pub fn run(comparer: &mut Comparer, befores: &mut Befores) -> Outcome {
     lengths(comparer, befores)
 }
 
+/// Levels that do not fit a byte or two, some of which would be 1 to 7 if they were truncated, and the largest byte.
+const WIDE_LEVELS: [u32; 8] = [255, 256, 257, 263, 512 + 3, 65_537, (1 << 31) + 1, u32::MAX];
+
+/// Unknown definitions: the lowest, and those that do not fit a byte or two, some of which would be ARGB or AYCoCg if they were
+/// truncated.
+pub const WIDE_DEFINITIONS: [u32; 6] = [2, 255, 256, 257, 65_536, u32::MAX];
+
 /// RLE or raw, alpha or none.
 pub const FLAGS: [(bool, bool); 4] = [(false, false), (false, true), (true, false), (true, true)];
 
@@ -26,11 +33,11 @@ pub fn few_forms() -> impl Iterator<Item = Form> {
     })
 }
 
-/// Sides of which one at least is refused, or that ask for more than any slice: also those whose product does not fit a word,
+/// Sides of which at least one is refused, or that need more than any buffer has: also those whose product does not fit a word,
 /// or wraps to a small number.
 fn table_of_sides(comparer: &mut Comparer, befores: &mut Befores) -> Outcome {
     const BODIES: [&[u8]; 4] = [&[], &[0; 8], &[0x10, 5, 0x10, 6, 0x10, 7, 0x10, 8], &[0xF2; 600]];
-    for (width, height) in TELLING_SIDES.into_iter().flat_map(|width| TELLING_SIDES.map(|height| (width, height))) {
+    for (width, height) in BOUNDARY_SIDES.into_iter().flat_map(|width| BOUNDARY_SIDES.map(|height| (width, height))) {
         for form in few_forms().chain([Form::aycocg(true, true, 0, true), Form::aycocg(false, true, 8, false)]) {
             for body in BODIES {
                 for room in [(0, 0), (9, 9), (0, 64), (64, 0), (5000, 5000)] {
@@ -42,11 +49,11 @@ fn table_of_sides(comparer: &mut Comparer, befores: &mut Befores) -> Outcome {
     Ok(())
 }
 
-/// The body as it is, one byte short of its minimum size, empty, and with a first control byte of 0; each in slices that are
+/// The body as it is, one byte short of its minimum size, empty, and with a first control byte of 0; each in buffers that are
 /// long enough and that are not.
 fn with_faults(comparer: &mut Comparer, befores: &mut Befores, kind: Kind, sent: Sent<'_>) -> Outcome {
     let damaged = [&[0], &sent.body[1..]].concat();
-    let short = sent.form.least_body(sent.width, sent.height) - 1;
+    let short = sent.form.min_body(sent.width, sent.height) - 1;
     for body in [sent.body, &sent.body[..short], &[], &damaged] {
         let sent = sent.with_body(body);
         befores.compare_longer(comparer, kind, sent, (0, 0))?;
@@ -55,11 +62,11 @@ fn with_faults(comparer: &mut Comparer, befores: &mut Befores, kind: Kind, sent:
     Ok(())
 }
 
-/// All loss levels, of which 1 to 7 are not refused; with ARGB none is.
+/// All loss levels of a byte and wider ones. With AYCoCg all but 1 to 7 are refused, with ARGB none is.
 fn all_levels(comparer: &mut Comparer, befores: &mut Befores) -> Outcome {
     let rng = &mut Rng::new(21);
     let (width, height) = (3, 2);
-    for level in 0..=255 {
+    for level in (0..255).chain(WIDE_LEVELS) {
         for (rle, alpha) in FLAGS {
             for (definition, subsampled) in [(AYCOCG, false), (AYCOCG, true), (ARGB, false), (ARGB, true)] {
                 let form = Form { rle, alpha, definition, level, subsampled };
@@ -72,12 +79,12 @@ fn all_levels(comparer: &mut Comparer, befores: &mut Befores) -> Outcome {
     Ok(())
 }
 
-/// All definitions that there are not, with levels on either side of each limit.
+/// All unknown definitions of a byte and wider ones, with levels on either side of each limit.
 fn all_definitions(comparer: &mut Comparer, befores: &mut Befores) -> Outcome {
     let rng = &mut Rng::new(22);
     let (width, height) = (2, 3);
-    for definition in 2..=255 {
-        for level in [0, 1, 7, 8] {
+    for definition in (3..255).chain(WIDE_DEFINITIONS) {
+        for level in [0, 1, 7, 8, 257] {
             for (rle, alpha) in FLAGS {
                 let form = Form { rle, alpha, definition, level, subsampled: rng.once_in(2) };
                 let body = Planes::random(rng, form, width, height).body(form, width, height);
@@ -92,7 +99,7 @@ fn all_definitions(comparer: &mut Comparer, befores: &mut Befores) -> Outcome {
 /// Sides, level, body, work area and image each right or wrong, in all combinations.
 fn several_at_once(comparer: &mut Comparer, befores: &mut Befores) -> Outcome {
     let rng = &mut Rng::new(23);
-    for level in [0, 1, 7, 8, 255] {
+    for level in [0, 1, 7, 8, 255, 257] {
         for (rle, alpha) in FLAGS {
             for subsampled in [false, true] {
                 let form = Form::aycocg(rle, alpha, level, subsampled);
@@ -109,10 +116,10 @@ fn several_at_once(comparer: &mut Comparer, befores: &mut Befores) -> Outcome {
     Ok(())
 }
 
-/// A body of a picture of 2 x 3, right or short, with these sides and with wrong ones, in slices right or short.
+/// A body of a picture of 2 x 3, right or short, with these sides and with wrong ones, in buffers right or short.
 fn in_all_sides(comparer: &mut Comparer, befores: &mut Befores, form: Form, body: &[u8]) -> Outcome {
     let (work, image) = Sent { width: 2, height: 3, form, body }.needs();
-    let short = form.least_body(2, 3) - 1;
+    let short = form.min_body(2, 3) - 1;
     for width in [0, 2, MAX_SIDE + 1] {
         for height in [0, 3, MAX_SIDE + 1] {
             for body in [body, &body[..short]] {
@@ -136,10 +143,10 @@ fn lengths(comparer: &mut Comparer, befores: &mut Befores) -> Outcome {
     for (width, height) in [(1, 1), (2, 2), (3, 3), (5, 2), (2, 7), (47, 1), (48, 2), (95, 1)] {
         for form in few_forms() {
             let mut body = Planes::random(rng, form, width, height).body(form, width, height);
-            let whole = body.len();
+            let complete = body.len();
             body.extend(rng.bytes(60));
-            let least = form.least_body(width, height);
-            let mut ends = vec![0, least - 1, least, least + 1, whole - 1, whole, whole + 1, whole + 60];
+            let min = form.min_body(width, height);
+            let mut ends = vec![0, min - 1, min, min + 1, complete - 1, complete, complete + 1, complete + 60];
             ends.sort_unstable();
             ends.dedup();
             for end in ends {

@@ -1,18 +1,20 @@
 //! How long the work area and the image must be: two functions of a library, compared with plain formulas.
 
-use crate::case::{MAX_SIDE, TELLING_SIDES};
+use crate::case::{BOUNDARY_SIDES, MAX_SIDE};
 use crate::check::{Comparer, Outcome};
+use crate::picture::case::{ARGB, AYCOCG};
+use crate::picture::refused::WIDE_DEFINITIONS;
 use crate::picture::Form;
 use crate::tally::Kind;
 use std::fmt;
 
-/// What the two are asked.
+/// The arguments of the two.
 #[derive(Clone, Copy, Debug, PartialEq, Eq)]
 pub struct Sizes {
     pub width: usize,
     pub height: usize,
     pub rle: bool,
-    pub definition: u8,
+    pub definition: u32,
     pub subsampled: bool,
 }
 
@@ -22,7 +24,7 @@ impl Sizes {
         !sides.contains(&self.width) || !sides.contains(&self.height)
     }
 
-    /// The three colour planes, for RLE alone. A definition that there is not counts as AYCoCg.
+    /// The three colour planes, for RLE alone. An unknown definition counts as AYCoCg.
     pub fn work(&self) -> usize {
         let Sizes { rle, definition, subsampled, .. } = *self;
         let form = Form { rle, alpha: false, definition, level: 1, subsampled };
@@ -69,11 +71,11 @@ impl fmt::Display for Sizes {
 /// Sides inside the domain, odd and even.
 const MORE_SIDES: [usize; 13] = [4, 5, 6, 7, 8, 9, 47, 48, 100, 4095, 4096, 4097, MAX_SIDE - 2];
 
-/// All pairs of boundary sides, all definitions that matter.
+/// All pairs of boundary sides, both definitions and unknown ones.
 pub fn run(comparer: &mut Comparer) -> Outcome {
-    let sides = || TELLING_SIDES.into_iter().chain(MORE_SIDES);
+    let sides = || BOUNDARY_SIDES.into_iter().chain(MORE_SIDES);
     for (width, height) in sides().flat_map(|width| sides().map(move |height| (width, height))) {
-        for definition in [0, 1, 2, 255] {
+        for definition in [ARGB, AYCOCG].into_iter().chain(WIDE_DEFINITIONS) {
             for (rle, subsampled) in [(false, false), (false, true), (true, false), (true, true)] {
                 comparer.compare_sizes(Kind::SizesTable, Sizes { width, height, rle, definition, subsampled })?;
             }

@@ -18,7 +18,7 @@ pub fn smaller(case: &OwnedEncoding) -> impl Iterator<Item = OwnedEncoding> + '_
         .chain(plain(&case.before).map(|before| OwnedEncoding { before, ..case.clone() }))
 }
 
-/// Larger pictures lose rows and columns before anything else is tried: every look at them takes long.
+/// Larger pictures lose rows and columns before anything else is tried: comparing them takes long.
 const LONG: usize = 1 << 16;
 
 /// The length of the packing, if nothing is refused before it.
@@ -58,26 +58,26 @@ fn with_lower_sides(case: &OwnedEncoding) -> impl Iterator<Item = OwnedEncoding>
 }
 
 /// Rows or columns left out of every source, if none is short and the picture has more samples than so many.
-fn with_smaller_picture(case: &OwnedEncoding, least: usize) -> impl Iterator<Item = OwnedEncoding> + '_ {
+fn with_smaller_picture(case: &OwnedEncoding, above: usize) -> impl Iterator<Item = OwnedEncoding> + '_ {
     let (width, height) = (case.width, case.height);
-    let whole = case.refused_at_entry().is_none() && width * height > least;
-    let (rows, columns) = if whole { (height, width) } else { (0, 0) };
+    let complete = case.refused_at_entry().is_none() && width * height > above;
+    let (rows, columns) = if complete { (height, width) } else { (0, 0) };
     let lower = pieces(rows).filter(move |piece| piece.len() < rows).map(move |piece| {
-        let cut = |slice: &[u8], stride| without_rows(stride * width, height, slice, piece.clone()).samples;
-        let sources = case.sources.view().map(cut);
+        let without = |slice: &[u8], stride| without_rows(stride * width, height, slice, piece.clone()).samples;
+        let sources = case.sources.view().map(without);
         OwnedEncoding { height: height - piece.len(), sources, ..case.clone() }
     });
     let narrower = pieces(columns).filter(move |piece| piece.len() < columns).map(move |piece| {
-        let cut = |slice: &[u8], stride| {
+        let without = |slice: &[u8], stride| {
             without_columns(stride * width, height, slice, stride * piece.start..stride * piece.end).samples
         };
-        let sources = case.sources.view().map(cut);
+        let sources = case.sources.view().map(without);
         OwnedEncoding { width: width - piece.len(), sources, ..case.clone() }
     });
     lower.chain(narrower).flat_map(|changed| refitted(case, changed))
 }
 
-/// The case with each source in turn changed in these ways.
+/// The case with one source at a time changed in these ways.
 fn each_source<'a, Changed: Iterator<Item = Vec<u8>> + 'a>(
     case: &'a OwnedEncoding,
     change: impl Fn(&'a [u8], usize) -> Changed + 'a,

@@ -4,7 +4,7 @@ use super::call::{lower_sides, with_lower_bytes, with_plain_destination, with_sh
 use super::lower;
 use super::plane::smaller_planes;
 use crate::case::Owned;
-use crate::demand::Model;
+use crate::prefix::Model;
 
 /// Of sides, source length, destination length, samples and the destination's content each lowers one and none that stands
 /// before it, so shrinking ends.
@@ -28,9 +28,9 @@ fn packed_len(case: &Owned) -> Option<usize> {
 fn resized(case: &Owned, width: usize, height: usize, source: Vec<u8>) -> impl Iterator<Item = Owned> {
     let kept = Owned { operation: case.operation, width, height, source, before: case.before.clone() };
     let spared = packed_len(case).zip(packed_len(&kept)).map_or(0, |(long, short)| long.saturating_sub(short));
-    let mut cut = kept.clone();
-    cut.before.truncate(kept.before.len().saturating_sub(spared));
-    [cut, kept].into_iter().take(1 + usize::from(spared > 0))
+    let mut shorter = kept.clone();
+    shorter.before.truncate(kept.before.len().saturating_sub(spared));
+    [shorter, kept].into_iter().take(1 + usize::from(spared > 0))
 }
 
 /// Lower heights and widths for the same source.

@@ -6,7 +6,8 @@ use crate::picture::{Form, OwnedPicture, Planes, Sizes};
 use crate::planes::segment_starts;
 use std::ops::Range;
 
-/// Longer bodies lose rows and columns before anything else is tried: every look at them takes long.
+/// With longer bodies fewer rows and columns are tried before anything else, and before these a shorter image if it is too short
+/// already: comparing them takes long.
 const LONG: usize = 1 << 16;
 /// Of bodies up to this length segments are left out.
 const SHORT: usize = 64;
@@ -15,9 +16,13 @@ const SHORT: usize = 64;
 /// so shrinking ends.
 pub fn smaller(case: &OwnedPicture) -> impl Iterator<Item = OwnedPicture> + '_ {
     let long = case.body.len() > LONG;
-    long.then(|| with_smaller_planes(case))
+    let short_image = case.image.len() < needs(case.form, case.width, case.height).1;
+    let shorter_slices = (long && short_image).then(|| with_shorter_slices(case));
+    let smaller_planes = long.then(|| with_smaller_planes(case));
+    shorter_slices
         .into_iter()
         .flatten()
+        .chain(smaller_planes.into_iter().flatten())
         .chain(with_plainer_form(case))
         .chain(with_lower_sides(case))
         .chain(with_smaller_planes(case))
@@ -28,7 +33,7 @@ pub fn smaller(case: &OwnedPicture) -> impl Iterator<Item = OwnedPicture> + '_ {
         .chain(with_plain_slices(case))
 }
 
-/// The lengths that a case needs, as far as that can be said.
+/// The minimum sizes of the work area and the image, or the largest number.
 fn needs(form: Form, width: usize, height: usize) -> (usize, usize) {
     let (chroma_width, chroma_height) = form.chroma_sides(width, height);
     let chroma = chroma_width.saturating_mul(chroma_height).saturating_mul(2);
@@ -57,15 +62,15 @@ fn remade(case: &OwnedPicture, form: Form, (width, height): (usize, usize), body
     OwnedPicture { width, height, form, body, work, image }
 }
 
-/// Forms that say less: raw for RLE, no alpha, no subsampling, lower definitions and levels.
+/// Simpler forms: raw for RLE, no alpha, no subsampling, lower definitions and levels.
 fn plainer_forms(form: Form) -> impl Iterator<Item = Form> {
-    let definitions = lower(usize::from(form.definition)).map(move |lower| Form { definition: lower as u8, ..form });
+    let definitions = lower(form.definition as usize).map(move |lower| Form { definition: lower as u32, ..form });
     let flags = [
         form.rle.then_some(Form { rle: false, ..form }),
         form.alpha.then_some(Form { alpha: false, ..form }),
         form.subsampled.then_some(Form { subsampled: false, ..form }),
     ];
-    let levels = lower(usize::from(form.level)).map(move |level| Form { level: level as u8, ..form });
+    let levels = lower(form.level as usize).map(move |level| Form { level: level as u32, ..form });
     definitions.chain(flags.into_iter().flatten()).chain(levels)
 }
 
@@ -85,7 +90,7 @@ fn fitted(planes: &Planes, case: &OwnedPicture, form: Form) -> Planes {
     fitted
 }
 
-/// A plainer form, for the planes of a body that is whole, or for the body as it is.
+/// A plainer form, for the planes of a complete body, or for the body as it is.
 fn with_plainer_form(case: &OwnedPicture) -> impl Iterator<Item = OwnedPicture> + '_ {
     let planes = Planes::of(case);
     let sides = (case.width, case.height);
@@ -107,7 +112,7 @@ fn with_lower_sides(case: &OwnedPicture) -> impl Iterator<Item = OwnedPicture> +
     heights.chain(widths).map(|sides| remade(case, case.form, sides, case.body.clone()))
 }
 
-/// Rows or columns left out of every plane of a body that is whole.
+/// Rows or columns left out of every plane of a complete body.
 fn with_smaller_planes(case: &OwnedPicture) -> impl Iterator<Item = OwnedPicture> + '_ {
     let found = Planes::of(case);
     let (rows, columns) = if found.is_some() { (case.height, case.width) } else { (0, 0) };
@@ -149,7 +154,7 @@ fn without(plane: &[u8], width: usize, rows: &Range<usize>, columns: &Range<usiz
     kept.flat_map(|(_, row)| [&row[..columns.start], &row[columns.end..]].concat()).collect()
 }
 
-/// One row or column fewer, and one or two neighbouring segments of an RLE body: a body that is not whole has no planes to
+/// One row or column fewer, and one or two neighbouring segments of an RLE body: an incomplete body has no planes to
 /// take it from.
 fn with_segments_left_out(case: &OwnedPicture) -> impl Iterator<Item = OwnedPicture> + '_ {
     let short = case.form.rle && case.body.len() <= SHORT;
@@ -209,7 +214,7 @@ pub fn smaller_sizes(case: &Sizes) -> impl Iterator<Item = Sizes> + '_ {
     let heights = lower_side(case.height).map(|height| Sizes { height, ..*case });
     let widths = lower_side(case.width).map(|width| Sizes { width, ..*case });
     let definitions =
-        lower(usize::from(case.definition)).map(|definition| Sizes { definition: definition as u8, ..*case });
+        lower(case.definition as usize).map(|definition| Sizes { definition: definition as u32, ..*case });
     let flags = [
         case.rle.then_some(Sizes { rle: false, ..*case }),
         case.subsampled.then_some(Sizes { subsampled: false, ..*case }),

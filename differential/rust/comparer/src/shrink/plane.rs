@@ -13,8 +13,8 @@ pub struct Smaller {
 /// The plane without a piece of its rows, then without a piece of its columns; what follows the plane stays. There is none
 /// if the samples do not fill the plane.
 pub fn smaller_planes(width: usize, height: usize, samples: &[u8]) -> impl Iterator<Item = Smaller> + '_ {
-    let whole = width.saturating_mul(height) <= samples.len();
-    let (rows, columns) = if whole { (height, width) } else { (0, 0) };
+    let complete = width.saturating_mul(height) <= samples.len();
+    let (rows, columns) = if complete { (height, width) } else { (0, 0) };
     let lower = pieces(rows).filter(move |piece| piece.len() < rows);
     let narrower = pieces(columns).filter(move |piece| piece.len() < columns);
     lower

@@ -1,4 +1,4 @@
-//! A body taken apart into rows of segments, so that a case can be made narrower or lower and still say the same.
+//! A body divided into rows of segments, so that a case can lose columns or rows and keep the other segments.
 
 use crate::case::Owned;
 use crate::planes::counts;
@@ -9,13 +9,13 @@ struct Segment {
     run: usize,
 }
 
-/// The rows that can be read, the last one perhaps not whole, and the bytes behind them.
+/// The rows that can be read, the last one perhaps incomplete, and the bytes behind them.
 pub struct Rows {
     rows: Vec<Vec<Segment>>,
     tail: Vec<u8>,
 }
 
-/// The segment that starts here and how many bytes it has, if it is whole and not longer than what the row has left.
+/// The segment that starts here and how many bytes it has, if it is complete and not longer than what the row has left.
 fn segment_at(body: &[u8], left: usize) -> Option<(Segment, usize)> {
     let (&control, behind) = body.split_first()?;
     let (raw, run) = counts(control);
@@ -48,7 +48,7 @@ impl Rows {
         self.rows.len()
     }
 
-    /// A body of these rows, cut to a width, without one of them if that is asked.
+    /// A body of these rows, no wider than this, without one of them if that is asked.
     pub fn body(&self, width: usize, without: Option<usize>) -> Vec<u8> {
         let mut out = Vec::new();
         for (at, row) in self.rows.iter().enumerate() {
@@ -97,7 +97,7 @@ mod tests {
     use crate::case::Owned;
 
     #[test]
-    fn whole_narrower_and_lower() {
+    fn complete_narrower_and_lower() {
         let case = Owned::parse("pu 20 2 1F09130911031001FF EE*40").unwrap();
         let rows = Rows::of(&case);
         assert_eq!(rows.body(20, None), case.source);

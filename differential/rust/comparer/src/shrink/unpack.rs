@@ -31,7 +31,7 @@ fn with_lower_sides(case: &Owned) -> impl Iterator<Item = Owned> + '_ {
     lower_sides(case).map(|(width, height)| resized(case, width, height, case.source.clone()))
 }
 
-/// Lower widths, the body's segments cut to them.
+/// Lower widths, and no more of the body's segments than fits them.
 fn narrower(case: &Owned) -> impl Iterator<Item = Owned> + '_ {
     let rows = Rows::of(case);
     lower(case.width).map(move |width| resized(case, width, case.height, rows.body(width, None)))

@@ -1,8 +1,8 @@
 //! The part that is the same in every run: all short bodies, all destination lengths, the refused sides.
 
-use crate::case::{Case, MAX_SIDE, TELLING_SIDES};
+use crate::case::{Case, BOUNDARY_SIDES, MAX_SIDE};
 use crate::check::{Comparer, Outcome};
-use crate::planes::{self, Earlier, Look};
+use crate::planes::{self, Earlier, PlaneKind};
 use crate::rng::Rng;
 use crate::strings::each_string;
 use crate::tally::Kind;
@@ -73,8 +73,8 @@ fn destination_lengths(comparer: &mut Comparer, earlier: &mut Earlier) -> Outcom
     let rng = &mut Rng::new(10);
     for width in [1, 2, 3, 4, 15, 16, 17, 33, 48] {
         for height in 1..=4 {
-            let plane = planes::samples(rng, Look::FewValues, width, height);
-            let packed = original::pack(&plane, width, height).expect("a whole plane with room");
+            let plane = planes::samples(rng, PlaneKind::FewValues, width, height);
+            let packed = original::pack(&plane, width, height).expect("a complete plane with room");
             let bodies: [&[u8]; 4] = [&packed, &packed[..packed.len() / 2], &[], &[0]];
             for body in bodies {
                 for room in 0..=width * height + 4 {
@@ -87,12 +87,12 @@ fn destination_lengths(comparer: &mut Comparer, earlier: &mut Earlier) -> Outcom
     Ok(())
 }
 
-/// Sides of which one at least is refused, or that ask for more than any destination: also those whose product does not
+/// Sides of which at least one is refused, or that need more than any destination has: also those whose product does not
 /// fit a word, or wraps to a small number.
 fn refused_sides(comparer: &mut Comparer, earlier: &mut Earlier) -> Outcome {
     const BODIES: [&[u8]; 6] = [&[], &[0], &[0x10, 5], &[3], &[0x03, 0x03, 0x03, 0x03], &[0xF2; 40]];
-    for width in TELLING_SIDES {
-        for height in TELLING_SIDES {
+    for width in BOUNDARY_SIDES {
+        for height in BOUNDARY_SIDES {
             for body in BODIES {
                 for room in [0, 1, 2, 9, 64, 4096, 5000] {
                     let before = earlier.bytes(room);
@@ -104,11 +104,11 @@ fn refused_sides(comparer: &mut Comparer, earlier: &mut Earlier) -> Outcome {
     Ok(())
 }
 
-/// The largest planes that there are: whole, cut, and in a destination that is one byte short.
+/// The largest planes: complete, truncated, and in a destination that is one byte short.
 fn largest_planes(comparer: &mut Comparer, earlier: &mut Earlier) -> Outcome {
     let (width, height) = (MAX_SIDE, MAX_SIDE);
     let plane: Vec<u8> = (0..width * height).map(|at| (at % width / 100 + at / width) as u8).collect();
-    let packed = original::pack(&plane, width, height).expect("a whole plane with room");
+    let packed = original::pack(&plane, width, height).expect("a complete plane with room");
     let before = earlier.bytes(width * height);
     for body in [&packed[..], &packed[..packed.len() - 1]] {
         comparer.compare(Kind::Largest, Case::unpack(width, height, body, before))?;

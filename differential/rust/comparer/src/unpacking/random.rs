@@ -2,12 +2,12 @@
 
 use crate::case::Case;
 use crate::check::{Comparer, Outcome};
-use crate::planes::{self, Earlier, Making, LOOKS};
+use crate::planes::{self, Earlier, Making, PLANE_KINDS};
 use crate::rng::Rng;
 use crate::tally::Kind;
 
-/// Packings up to this length are cut at every place, longer ones at some.
-const CUT_EVERYWHERE: usize = 160;
+/// Of packings up to this length every prefix is unpacked, of longer ones some.
+const EVERY_LENGTH: usize = 160;
 
 /// Random cases from one seed.
 pub struct Random {
@@ -53,37 +53,37 @@ impl Random {
         comparer.compare(kind, Case::unpack(width, height, body, self.earlier.bytes(room)))
     }
 
-    /// A plane that IronRDP packs: whole, with bytes following, cut, damaged.
+    /// A plane that IronRDP packs: complete, with bytes following, truncated, damaged.
     fn packed(&mut self, comparer: &mut Comparer) -> Outcome {
         let (width, height) = planes::sides(&mut self.rng);
         let sides = (width, height);
-        let look = *self.rng.pick(&LOOKS);
-        let plane = planes::samples(&mut self.rng, look, width, height);
-        let packed = original::pack(&plane, width, height).expect("a whole plane with room");
+        let plane_kind = *self.rng.pick(&PLANE_KINDS);
+        let plane = planes::samples(&mut self.rng, plane_kind, width, height);
+        let packed = original::pack(&plane, width, height).expect("a complete plane with room");
         for room in [0, 1, self.rng.within(2, 5000)].map(|more| width * height + more) {
             let before = self.earlier.bytes(room);
-            comparer.compare(Kind::Whole, Case::unpack(width, height, &packed, before))?;
+            comparer.compare(Kind::Complete, Case::unpack(width, height, &packed, before))?;
         }
         let more = self.rng.within(1, 40);
         let following = [&packed[..], &self.rng.bytes(more)].concat();
         self.compare(comparer, Kind::Following, &following, sides)?;
-        self.cut(comparer, &packed, sides)?;
+        self.truncated(comparer, &packed, sides)?;
         self.damaged(comparer, &packed, sides)
     }
 
     /// The first bytes of a packing.
-    fn cut(&mut self, comparer: &mut Comparer, packed: &[u8], sides: (usize, usize)) -> Outcome {
-        if packed.len() <= CUT_EVERYWHERE {
+    fn truncated(&mut self, comparer: &mut Comparer, packed: &[u8], sides: (usize, usize)) -> Outcome {
+        if packed.len() <= EVERY_LENGTH {
             for len in 0..packed.len() {
-                self.compare(comparer, Kind::Cut, &packed[..len], sides)?;
+                self.compare(comparer, Kind::Truncated, &packed[..len], sides)?;
             }
             return Ok(());
         }
         for _ in 0..6 {
             let len = self.rng.below(packed.len());
-            self.compare(comparer, Kind::Cut, &packed[..len], sides)?;
+            self.compare(comparer, Kind::Truncated, &packed[..len], sides)?;
         }
-        self.compare(comparer, Kind::Cut, &packed[..packed.len() - 1], sides)
+        self.compare(comparer, Kind::Truncated, &packed[..packed.len() - 1], sides)
     }
 
     /// A packing with 1 to 3 bytes changed.
@@ -105,7 +105,7 @@ impl Random {
         Ok(())
     }
 
-    /// A body made segment by segment, mostly right; also cut, since no encoder here writes its like.
+    /// A body made segment by segment, mostly right; also truncated. No encoder here writes such bodies.
     fn made(&mut self, comparer: &mut Comparer, opening_runs: bool) -> Outcome {
         let kind = if opening_runs { Kind::OpeningRuns } else { Kind::Segments };
         let (width, height) = planes::sides(&mut self.rng);
@@ -132,7 +132,7 @@ impl Random {
         Ok(())
     }
 
-    /// Sides of which one at least is refused.
+    /// Sides of which at least one is refused.
     fn outside(&mut self, comparer: &mut Comparer) -> Outcome {
         for _ in 0..8 {
             let (width, height) = planes::sides_outside(&mut self.rng);

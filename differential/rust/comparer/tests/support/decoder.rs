@@ -1,23 +1,23 @@
-//! A picture decoder in small steps, written from document 01. A wrong one does one of them otherwise. The planes of an RLE
-//! picture it leaves to IronRDP: wrong unpackers of planes are looked for elsewhere.
+//! A picture decoder in small steps, written from docs/FORMAT.md. A wrong one does one of them differently. IronRDP unpacks the
+//! planes of an RLE picture: tests/wrong_unpackers.rs has wrong unpackers of planes.
 
 use comparer::case::MAX_SIDE;
 use comparer::picture::case::{ARGB, AYCOCG};
 use comparer::picture::check::Pictures;
 use comparer::picture::Form;
 
-/// A slice of a call. Indices of `write` are not tested: a mistake may pass them, as it would in a library.
-pub struct Lent {
+/// A buffer of a call. `read` and `write` do not check the index: a planted mistake may be out of bounds, as it would be in a library.
+pub struct Slice {
     pub at: *mut u8,
     pub len: usize,
 }
 
-impl Lent {
+impl Slice {
     pub fn bytes(&self) -> &[u8] {
         if self.len == 0 {
             return &[];
         }
-        // SAFETY: lent for the call.
+        // SAFETY: valid during the call.
         unsafe { std::slice::from_raw_parts(self.at, self.len) }
     }
 
@@ -25,12 +25,12 @@ impl Lent {
         if self.len == 0 {
             return &mut [];
         }
-        // SAFETY: lent for the call, and nothing else holds it.
+        // SAFETY: valid during the call, and not used elsewhere.
         unsafe { std::slice::from_raw_parts_mut(self.at, self.len) }
     }
 
     pub fn read(&self, at: usize) -> u8 {
-        // SAFETY: inside, or outside by a mistake made on purpose, into a page that the comparer watches.
+        // SAFETY: inside, or outside by a planted mistake, in a page that the comparer watches.
         unsafe { self.at.add(at).read_volatile() }
     }
 
@@ -45,29 +45,29 @@ pub struct Call {
     pub form: Form,
     pub width: usize,
     pub height: usize,
-    pub body: Lent,
-    pub work: Lent,
-    pub image: Lent,
+    pub body: Slice,
+    pub work: Slice,
+    pub image: Slice,
 }
 
 impl Call {
-    /// The samples of a full plane, or what a word can hold.
+    /// The samples of a full plane, or the largest number.
     pub fn full(&self) -> usize {
         self.width.saturating_mul(self.height)
     }
 
-    /// The body's length if it is raw and as short as can be, and where its colour planes begin.
+    /// The length of the alpha plane of a raw body, where its colour planes begin.
     pub fn alpha_len(&self) -> usize {
         usize::from(self.form.alpha) * self.full()
     }
 }
 
-/// The least body of an RLE plane.
-pub fn least_plane((width, height): (usize, usize)) -> usize {
+/// The minimum size of an RLE plane.
+pub fn min_plane((width, height): (usize, usize)) -> usize {
     height.saturating_mul(width.div_ceil(47))
 }
 
-/// The steps, each as document 01 has it.
+/// The steps, each as docs/FORMAT.md has it.
 pub trait Decoder {
     fn decode(call: &mut Call) -> i64 {
         let refused = Self::refused(call);
@@ -95,19 +95,19 @@ pub trait Decoder {
         [1, 2, 3, 4, 5, 6]
     }
 
-    /// Which of the refusals 1 to 6 there is a reason for.
+    /// Which of the refusals 1 to 6 have a reason.
     fn tests(call: &Call) -> [bool; 6] {
         [
             call.width == 0 || call.height == 0,
-            call.width > Self::most_side() || call.height > Self::most_side(),
+            call.width > Self::max_side() || call.height > Self::max_side(),
             Self::level_refused(call.form),
-            call.body.len < Self::least_body(call),
-            call.work.len < Self::least_work(call),
-            call.image.len < Self::least_image(call),
+            call.body.len < Self::min_body(call),
+            call.work.len < Self::min_work(call),
+            call.image.len < Self::min_image(call),
         ]
     }
 
-    fn most_side() -> usize {
+    fn max_side() -> usize {
         MAX_SIDE
     }
 
@@ -142,22 +142,22 @@ pub trait Decoder {
         call.full().saturating_add(Self::chroma_len(call).saturating_mul(2))
     }
 
-    fn least_body(call: &Call) -> usize {
+    fn min_body(call: &Call) -> usize {
         if call.form.rle {
-            Self::least_rle_body(call)
+            Self::min_rle_body(call)
         } else {
             call.alpha_len().saturating_add(Self::colour_len(call))
         }
     }
 
-    fn least_rle_body(call: &Call) -> usize {
-        let full = least_plane((call.width, call.height));
-        let chroma = least_plane(Self::chroma_sides(call));
+    fn min_rle_body(call: &Call) -> usize {
+        let full = min_plane((call.width, call.height));
+        let chroma = min_plane(Self::chroma_sides(call));
         let alpha = if call.form.alpha { full } else { 0 };
         alpha.saturating_add(full).saturating_add(chroma.saturating_mul(2))
     }
 
-    fn least_work(call: &Call) -> usize {
+    fn min_work(call: &Call) -> usize {
         if call.form.rle {
             Self::colour_len(call)
         } else {
@@ -165,7 +165,7 @@ pub trait Decoder {
         }
     }
 
-    fn least_image(call: &Call) -> usize {
+    fn min_image(call: &Call) -> usize {
         call.full().saturating_mul(3)
     }
 
@@ -203,7 +203,7 @@ pub trait Decoder {
         at
     }
 
-    /// What a refusal by 7, 8 or 9 does besides.
+    /// What follows a refusal by 7, 8 or 9.
     fn after_refusal(_call: &mut Call, _number: i64) {}
 
     /// The colour planes, one behind the other.
@@ -238,7 +238,7 @@ pub trait Decoder {
     /// The bytes of a pixel.
     fn pixel(call: &Call, planes: &[u8], starts: [usize; 3], pixel: usize) -> [u8; 3] {
         let chroma = Self::chroma_index(call, pixel / call.width, pixel % call.width);
-        // A mistake may ask for a sample that there is not.
+        // A planted mistake may read outside the planes.
         let sample = |plane: usize, at: usize| planes.get(starts[plane] + at).copied().unwrap_or(0);
         let samples = [sample(0, pixel), sample(1, chroma), sample(2, chroma)];
         match call.form.definition {
@@ -276,8 +276,8 @@ pub trait Decoder {
     }
 
     /// A chroma byte times 2^(level - 1) modulo 256, as a signed byte.
-    fn chroma(level: u8, byte: u8) -> i32 {
-        i32::from(byte.wrapping_shl(u32::from(level.wrapping_sub(1))) as i8)
+    fn chroma(level: u32, byte: u8) -> i32 {
+        i32::from(byte.wrapping_shl(level.wrapping_sub(1)) as i8)
     }
 
     fn clip(value: i32) -> u8 {
@@ -288,12 +288,12 @@ pub trait Decoder {
         form.alpha
     }
 
-    /// The answer, once all is done.
+    /// The answer of a picture that is not refused.
     fn finish(call: &mut Call) -> i64 {
         3 * call.full() as i64
     }
 
-    fn work_size(rle: bool, definition: u8, subsampled: bool, width: usize, height: usize) -> usize {
+    fn work_size(rle: bool, definition: u32, subsampled: bool, width: usize, height: usize) -> usize {
         let sides = 1..=MAX_SIDE;
         if !rle || !sides.contains(&width) || !sides.contains(&height) {
             0
@@ -314,8 +314,8 @@ pub trait Decoder {
     }
 }
 
-/// What IronRDP makes of a plane: the bytes read, or the number of the refusal. A panic, to which a mistake may lead, is no
-/// number that there is.
+/// What IronRDP makes of a plane: the bytes read, or the number of the refusal. A panic, which a planted mistake may cause, is 99, which
+/// is no refusal.
 pub fn unpacked(body: &[u8], plane: &mut [u8], (width, height): (usize, usize)) -> Result<usize, i64> {
     let answer = original::unpack(body, plane, width, height).number().unwrap_or(-99);
     usize::try_from(answer).map_err(|_| -answer)
@@ -329,8 +329,8 @@ impl Decoder for Right {}
 unsafe extern "C" fn decode<D: Decoder>(
     rle: bool,
     alpha: bool,
-    definition: u8,
-    level: u8,
+    definition: u32,
+    level: u32,
     subsampled: bool,
     body: *const u8,
     body_len: usize,
@@ -345,13 +345,19 @@ unsafe extern "C" fn decode<D: Decoder>(
         form: Form { rle, alpha, definition, level, subsampled },
         width,
         height,
-        body: Lent { at: body.cast_mut(), len: body_len },
-        work: Lent { at: work, len: work_len },
-        image: Lent { at: image, len: image_len },
+        body: Slice { at: body.cast_mut(), len: body_len },
+        work: Slice { at: work, len: work_len },
+        image: Slice { at: image, len: image_len },
     })
 }
 
-unsafe extern "C" fn work_size<D: Decoder>(rle: bool, def: u8, subsampled: bool, width: usize, height: usize) -> usize {
+unsafe extern "C" fn work_size<D: Decoder>(
+    rle: bool,
+    def: u32,
+    subsampled: bool,
+    width: usize,
+    height: usize,
+) -> usize {
     D::work_size(rle, def, subsampled, width, height)
 }
 
@@ -359,7 +365,7 @@ unsafe extern "C" fn image_size<D: Decoder>(width: usize, height: usize) -> usiz
     D::image_size(width, height)
 }
 
-/// The functions of a decoder as a library has them.
+/// The functions of a decoder as C declares them.
 pub const fn pictures<D: Decoder>() -> Pictures {
     Pictures { decode: decode::<D>, work_size: work_size::<D>, image_size: image_size::<D> }
 }

@@ -1,16 +1,16 @@
-//! A picture encoder in small steps, written from document 01. A wrong one does one of them otherwise. The planes of an RLE picture
-//! it leaves to IronRDP: wrong packers of planes are looked for elsewhere.
+//! A picture encoder in small steps, written from docs/FORMAT.md. A wrong one does one of them differently. IronRDP packs the planes of
+//! an RLE picture: tests/wrong_packers.rs has wrong packers of planes.
 
-use super::decoder::Lent;
+use super::decoder::Slice;
 use comparer::case::MAX_SIDE;
 use comparer::encoding::check::Encoders;
 use comparer::encoding::Channel;
 
-/// What is passed to be packed.
+/// The samples to pack.
 pub enum Given {
     /// R, G, B, and A if there is one.
-    Channels(Vec<Lent>),
-    Pixels(Lent),
+    Channels(Vec<Slice>),
+    Pixels(Slice),
 }
 
 /// What an encoder is called with.
@@ -21,11 +21,11 @@ pub struct Call {
     pub rle: bool,
     pub width: usize,
     pub height: usize,
-    pub dst: Lent,
+    pub dst: Slice,
 }
 
 impl Call {
-    /// The samples of a plane, or what a word can hold.
+    /// The samples of a plane, or the largest number.
     pub fn full(&self) -> usize {
         self.width.saturating_mul(self.height)
     }
@@ -40,7 +40,7 @@ impl Call {
     }
 
     /// The slices that samples are in.
-    pub fn slices(&self) -> &[Lent] {
+    pub fn slices(&self) -> &[Slice] {
         match &self.given {
             Given::Channels(slices) => slices,
             Given::Pixels(pixels) => std::slice::from_ref(pixels),
@@ -50,7 +50,7 @@ impl Call {
 
 pub use Channel::{A, B, G, R};
 
-/// The steps, each as document 01 has it.
+/// The steps, each as docs/FORMAT.md has it.
 pub trait Encoder {
     fn encode(call: &mut Call) -> i64 {
         let refused = Self::refused(call);
@@ -81,12 +81,12 @@ pub trait Encoder {
     fn tests(call: &Call) -> [(bool, i64); 3] {
         [
             (call.width == 0 || call.height == 0, 1),
-            (call.width > Self::most_side() || call.height > Self::most_side(), 2),
+            (call.width > Self::max_side() || call.height > Self::max_side(), 2),
             (Self::is_short(call), 11),
         ]
     }
 
-    fn most_side() -> usize {
+    fn max_side() -> usize {
         MAX_SIDE
     }
 
@@ -102,11 +102,11 @@ pub trait Encoder {
     fn counts(call: &Call) -> Vec<usize> {
         match &call.given {
             Given::Channels(slices) => slices.iter().map(|slice| slice.len).collect(),
-            Given::Pixels(pixels) => vec![Self::whole_pixels(pixels.len)],
+            Given::Pixels(pixels) => vec![Self::complete_pixels(pixels.len)],
         }
     }
 
-    fn whole_pixels(len: usize) -> usize {
+    fn complete_pixels(len: usize) -> usize {
         len / 4
     }
 
@@ -138,7 +138,7 @@ pub trait Encoder {
         call.full()
     }
 
-    /// A sample. It may be asked for where there is none, by a mistake.
+    /// A sample, or 0 where a planted mistake reads outside the source.
     fn sample(call: &Call, channel: Channel, at: usize) -> u8 {
         let (slice, at) = match &call.given {
             Given::Channels(slices) => (&slices[channel as usize], at),
@@ -195,17 +195,17 @@ pub trait Encoder {
         vec![0]
     }
 
-    /// What a refusal by 12 does besides.
+    /// What follows a refusal by 12.
     fn after_refusal(_call: &mut Call, _number: i64) {}
 
-    /// The answer, once all is written.
+    /// The answer of a picture that is not refused.
     fn finish(_call: &mut Call, count: usize) -> i64 {
         count as i64
     }
 }
 
-/// What IronRDP makes of a plane: the bytes written, or the number of the refusal. A panic, to which a mistake may lead, is no
-/// number that there is.
+/// What IronRDP makes of a plane: the bytes written, or the number of the refusal. A panic, which a planted mistake may cause, is 99,
+/// which is no refusal.
 pub fn packed(plane: &[u8], dst: &mut [u8], (width, height): (usize, usize)) -> Result<usize, i64> {
     let answer = original::compress(plane, dst, width, height).number().unwrap_or(-99);
     usize::try_from(answer).map_err(|_| -answer)
@@ -215,8 +215,8 @@ pub struct Right;
 
 impl Encoder for Right {}
 
-fn lent(at: *const u8, len: usize) -> Lent {
-    Lent { at: at.cast_mut(), len }
+fn slice(at: *const u8, len: usize) -> Slice {
+    Slice { at: at.cast_mut(), len }
 }
 
 #[allow(clippy::too_many_arguments)]
@@ -233,8 +233,8 @@ unsafe extern "C" fn channels<E: Encoder>(
     width: usize,
     height: usize,
 ) -> i64 {
-    let given = Given::Channels(vec![lent(r, r_len), lent(g, g_len), lent(b, b_len)]);
-    E::encode(&mut Call { given, alpha: false, rle, width, height, dst: lent(dst, dst_len) })
+    let given = Given::Channels(vec![slice(r, r_len), slice(g, g_len), slice(b, b_len)]);
+    E::encode(&mut Call { given, alpha: false, rle, width, height, dst: slice(dst, dst_len) })
 }
 
 #[allow(clippy::too_many_arguments)]
@@ -253,8 +253,8 @@ unsafe extern "C" fn channels_alpha<E: Encoder>(
     width: usize,
     height: usize,
 ) -> i64 {
-    let given = Given::Channels(vec![lent(r, r_len), lent(g, g_len), lent(b, b_len), lent(a, a_len)]);
-    E::encode(&mut Call { given, alpha: true, rle, width, height, dst: lent(dst, dst_len) })
+    let given = Given::Channels(vec![slice(r, r_len), slice(g, g_len), slice(b, b_len), slice(a, a_len)]);
+    E::encode(&mut Call { given, alpha: true, rle, width, height, dst: slice(dst, dst_len) })
 }
 
 unsafe extern "C" fn bitmap<E: Encoder, const ALPHA: bool>(
@@ -266,11 +266,11 @@ unsafe extern "C" fn bitmap<E: Encoder, const ALPHA: bool>(
     width: usize,
     height: usize,
 ) -> i64 {
-    let given = Given::Pixels(lent(src, src_len));
-    E::encode(&mut Call { given, alpha: ALPHA, rle, width, height, dst: lent(dst, dst_len) })
+    let given = Given::Pixels(slice(src, src_len));
+    E::encode(&mut Call { given, alpha: ALPHA, rle, width, height, dst: slice(dst, dst_len) })
 }
 
-/// The functions of an encoder as a library has them.
+/// The functions of an encoder as C declares them.
 pub const fn encoders<E: Encoder>() -> Encoders {
     Encoders {
         channels: channels::<E>,

@@ -1,14 +1,15 @@
-//! What the wrong functions are made of.
+//! The parts of the wrong functions, and how they are found.
 
 #![allow(dead_code)]
 
 pub mod decoder;
 pub mod encoder;
 
-use comparer::shrink::shrink;
+use comparer::report::report;
+use comparer::shrink::{shrink_within, LIMIT};
 use comparer::{Case, Comparer, Difference, Function, Library, Outcome};
 
-/// The slices of one call. Indices are not tested: a mistake may pass them, as it would in a library.
+/// The buffers of one call. Indices are not checked: a planted mistake may be out of bounds, as it would be in a library.
 pub struct Slices {
     pub src: *const u8,
     pub src_len: usize,
@@ -18,7 +19,7 @@ pub struct Slices {
 
 impl Slices {
     pub fn read(&self, at: usize) -> u8 {
-        // SAFETY: inside the source, or outside by a mistake made on purpose, into a page that the comparer watches.
+        // SAFETY: inside the source, or outside by a planted mistake, in a page that the comparer watches.
         unsafe { self.src.add(at).read_volatile() }
     }
 
@@ -38,7 +39,7 @@ impl Slices {
         if self.src_len == 0 {
             return &[];
         }
-        // SAFETY: lent for the call.
+        // SAFETY: valid during the call.
         unsafe { std::slice::from_raw_parts(self.src, self.src_len) }
     }
 
@@ -47,7 +48,7 @@ impl Slices {
         if self.dst_len == 0 {
             return &mut [];
         }
-        // SAFETY: lent for the call, and nothing else holds it.
+        // SAFETY: valid during the call, and not used elsewhere.
         unsafe { std::slice::from_raw_parts_mut(self.dst, self.dst_len) }
     }
 }
@@ -57,7 +58,7 @@ pub trait Call {
     fn call(slices: Slices, width: usize, height: usize) -> i64;
 }
 
-/// The same as a library has it.
+/// The same as C declares it.
 pub unsafe extern "C" fn exported<C: Call>(
     src: *const u8,
     src_len: usize,
@@ -69,11 +70,11 @@ pub unsafe extern "C" fn exported<C: Call>(
     C::call(Slices { src, src_len, dst, dst_len }, width, height)
 }
 
-/// What document 01 and IronRDP do with a case.
+/// What FORMAT 8 requires outside the domain, and IronRDP does inside it.
 fn done_right(case: Case<'_>, after: &mut [u8]) -> i64 {
     match case.refused_at_entry() {
         Some(number) => -i64::from(number),
-        None => case.by_rust(after).number().expect("an answer inside the domain"),
+        None => case.by_ironrdp(after).number().expect("an answer inside the domain"),
     }
 }
 
@@ -112,10 +113,13 @@ pub fn first_refused(tests: [(bool, i64); 3], order: [usize; 3]) -> i64 {
     order.iter().map(|&at| tests[at]).find(|test| test.0).map_or(0, |test| test.1)
 }
 
+/// No search here may cost more than this part of shrinking's limit.
+const MARGIN: u64 = 4;
+
 /// Some cases of one kind: what a round of random cases does.
 pub type Round = Box<dyn FnMut(&mut Comparer) -> Outcome>;
 
-/// How a mistake is looked for.
+/// How a planted mistake is found.
 pub struct Search {
     /// The cases that are the same in every run.
     pub fixed: fn(&mut Comparer) -> Outcome,
@@ -123,7 +127,7 @@ pub struct Search {
     pub random: fn(u64) -> Round,
     /// So many rounds of these follow the fixed cases.
     pub rounds: usize,
-    /// So many rounds must do without them: random cases must be worth their time too.
+    /// Random cases without the fixed ones must find it too, within so many rounds.
     pub alone: usize,
 }
 
@@ -136,7 +140,9 @@ impl Search {
         for _ in 0..self.rounds {
             outcome = outcome.and_then(|()| round(&mut comparer));
         }
-        outcome.err().map(|difference| shrink(&mut comparer, difference))
+        let (smallest, cost) = shrink_within(&mut comparer, outcome.err()?, LIMIT);
+        assert!(cost <= LIMIT / MARGIN, "shrinking cost {cost}, near the limit of {LIMIT}");
+        Some(smallest)
     }
 
     /// One that random cases find alone.
@@ -146,16 +152,29 @@ impl Search {
         (0..self.alone).find_map(|_| round(&mut comparer).err())
     }
 
-    /// The mistake is found, both ways, in the library and not in IronRDP, and its smallest input is as small as this one.
+    /// The mistake is found, both ways, in the library and not in IronRDP, and its smallest input is this one.
     pub fn finds(&self, library: Library, smallest: &str) {
-        let difference = self.difference_in(library).expect("a mistake is found");
-        assert_eq!(difference.case.to_string(), smallest, "{difference}");
-        assert_eq!(difference.whose, "the library");
+        self.finds_in_fixed(library, smallest);
         assert!(self.random_difference_in(library).is_some(), "random cases find nothing");
     }
 
-    pub fn finds_nothing(&self, library: Library) {
-        let difference = self.difference_in(library);
-        assert!(difference.is_none(), "{}", difference.unwrap());
+    /// The same, but random cases need not find it.
+    pub fn finds_in_fixed(&self, library: Library, smallest: &str) {
+        let difference = self.difference_in(library).expect("a mistake is found");
+        let found = difference.case.to_string() == smallest;
+        assert!(found, "the smallest input should be\n  {smallest}\n{}", reported(&difference));
+        assert_eq!(difference.side, "rdp6");
     }
+
+    pub fn finds_nothing(&self, library: Library) {
+        if let Some(difference) = self.difference_in(library) {
+            panic!("{}", reported(&difference));
+        }
+    }
+}
+
+/// The text of a difference. The complete text of a long one is in a file with the test's name.
+fn reported(difference: &Difference) -> String {
+    let name = std::thread::current().name().unwrap_or("test").replace("::", "-");
+    report(difference, &format!("{name}.txt"))
 }

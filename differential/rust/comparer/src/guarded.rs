@@ -1,10 +1,11 @@
-//! Places slices in guarded memory, whose surroundings are watched. A guarded slice lies in pages of its own with pages on both sides that may not
-//! be touched: it either ends where such a page begins or starts where one ends. The rest of its own pages holds canaries.
+//! Buffers in guarded pages. Each buffer of a call lies in pages of its own between forbidden pages: it ends where a forbidden page
+//! begins, or starts where one ends. The rest of its own pages holds canaries.
 //!
-//! When a forbidden page is touched, the fault is noted and the page is opened, so that the call goes on: the case can be
-//! told and made smaller instead of the program dying.
+//! A call that touches a forbidden page is noted and the page is opened, so that the call goes on: the program does not end, and
+//! the case can be printed and made smaller.
 
 use crate::input::View;
+use crate::report::report;
 use std::array;
 use std::cell::Cell;
 use std::ffi::{c_int, c_void};
@@ -15,8 +16,8 @@ use std::sync::Once;
 const PAGE: usize = 4096;
 /// The forbidden bytes on either side of guarded pages.
 const GAP: usize = 64 * PAGE;
-/// One stretch of addresses holds all that is passed, so that a fault inside it is known to be ours.
-const STRETCH: usize = 1 << 33;
+/// All buffers lie in one range of addresses. A fault inside it is a buffer's.
+const RANGE: usize = 1 << 33;
 
 const PROT_NONE: c_int = 0;
 const PROT_READ_WRITE: c_int = 3;
@@ -57,32 +58,32 @@ thread_local! {
 }
 
 fn protect(at: usize, len: usize, prot: c_int) {
-    // SAFETY: only called on pages of the stretch, which nothing else uses.
+    // SAFETY: only called on pages of the range, which nothing else uses.
     let done = unsafe { mprotect(at as *mut c_void, len, prot) };
     assert_eq!(done, 0, "mprotect");
 }
 
 extern "C" fn on_fault(signal: c_int, info: *const Info, _context: *const c_void) {
-    // SAFETY: the system lends the record for the length of this call.
+    // SAFETY: the record is valid during this call.
     let address = unsafe { (*info).address };
     let start = START.load(Ordering::Relaxed);
-    if address.wrapping_sub(start) < STRETCH {
+    if address.wrapping_sub(start) < RANGE {
         if TOUCHED.get() == 0 {
             TOUCHED.set(address);
         }
         protect(address / PAGE * PAGE, PAGE, PROT_READ_WRITE);
     } else {
-        tell_current("a fault far from what was lent");
+        print_current_case("a fault far from the buffers of the call");
         // The next attempt ends the program as it would have without this handler.
         set_handler(signal, 0, 0);
     }
 }
 
-/// Says which case faults, if a call is under way: the program cannot go on.
-pub fn tell_current(fault: &str) {
-    // SAFETY: it is null, or the case of a call that has not come back.
+/// Prints the case of the current call, if there is one, before the program ends.
+pub fn print_current_case(fault: &str) {
+    // SAFETY: it is null, or the case of a call that has not returned.
     if let Some(case) = unsafe { CURRENT.get().as_ref() } {
-        eprintln!("{fault}, in\n  {}", case.to_owned());
+        eprintln!("{}", report(&format!("{fault}, in\n  {}", case.to_owned()), "fault.txt"));
     }
 }
 
@@ -93,11 +94,11 @@ fn set_handler(signal: c_int, handler: usize, flags: c_int) {
     assert_eq!(done, 0, "sigaction");
 }
 
-fn reserve_stretch() {
+fn reserve_range() {
     static ONCE: Once = Once::new();
     ONCE.call_once(|| {
         // SAFETY: new addresses of the system's choice.
-        let at = unsafe { mmap(ptr::null_mut(), STRETCH, PROT_NONE, MAP_PRIVATE_ANONYMOUS_NORESERVE, -1, 0) };
+        let at = unsafe { mmap(ptr::null_mut(), RANGE, PROT_NONE, MAP_PRIVATE_ANONYMOUS_NORESERVE, -1, 0) };
         assert_ne!(at as isize, -1, "mmap");
         START.store(at as usize, Ordering::Relaxed);
         NEXT.store(at as usize + GAP, Ordering::Relaxed);
@@ -105,11 +106,11 @@ fn reserve_stretch() {
     });
 }
 
-/// The bytes of a page. They lie as a page does, which makes comparing quicker.
+/// The bytes of a page, aligned like a page, which makes comparing faster.
 #[repr(align(4096))]
 struct Page([u8; PAGE]);
 
-/// The bytes of a page that are not lent. No two neighbours are equal and none is 0 or `EE`.
+/// What a page holds beside its buffer. No two neighbours are equal and none is 0 or `EE`.
 static CANARIES: Page = Page({
     let mut page = [0; PAGE];
     let mut i = 0;
@@ -120,7 +121,7 @@ static CANARIES: Page = Page({
     page
 });
 
-/// Where a guarded slice lies in its pages.
+/// Where a buffer lies in its pages.
 #[derive(Clone, Copy, Debug, PartialEq, Eq)]
 pub enum Side {
     /// It starts right behind a forbidden page.
@@ -131,7 +132,7 @@ pub enum Side {
 
 pub const SIDES: [Side; 2] = [Side::End, Side::Start];
 
-/// Pages for slices that need so many.
+/// Pages for buffers that need so many.
 struct Region {
     start: *mut u8,
     len: usize,
@@ -139,10 +140,10 @@ struct Region {
 
 impl Region {
     fn new(pages: usize) -> Region {
-        reserve_stretch();
+        reserve_range();
         let len = pages * PAGE;
         let start = NEXT.fetch_add(len + GAP, Ordering::Relaxed);
-        assert!(start + len + GAP <= START.load(Ordering::Relaxed) + STRETCH, "the stretch is used up");
+        assert!(start + len + GAP <= START.load(Ordering::Relaxed) + RANGE, "the range of addresses is used up");
         protect(start, len, PROT_READ_WRITE);
         let region = Region { start: start as *mut u8, len };
         region.fill_with_canaries();
@@ -158,7 +159,7 @@ impl Region {
 
     fn slice(&self, from: usize, len: usize) -> &[u8] {
         assert!(from + len <= self.len);
-        // SAFETY: inside this region; what was passed to is not written to while this is held.
+        // SAFETY: inside this region, to which nothing writes while this slice is used.
         unsafe { std::slice::from_raw_parts(self.start.add(from), len) }
     }
 
@@ -169,8 +170,9 @@ impl Region {
         }
     }
 
-    /// Where the bytes are passed. An empty slice is passed as NULL once, as the header allows.
-    fn lend(&self, bytes: &[u8], side: Side) -> *mut u8 {
+    /// Copies the bytes to their place and returns its address. An empty buffer is NULL at one of the two sides, which
+    /// include/rdp6.h allows.
+    fn place(&self, bytes: &[u8], side: Side) -> *mut u8 {
         if bytes.is_empty() && side == Side::Start {
             return ptr::null_mut();
         }
@@ -182,11 +184,12 @@ impl Region {
         }
     }
 
-    fn lent(&self, len: usize, side: Side) -> &[u8] {
+    /// The bytes at that place.
+    fn content(&self, len: usize, side: Side) -> &[u8] {
         self.slice(self.offset(len, side), len)
     }
 
-    /// The part of the pages that is not lent.
+    /// The part of the pages beside the buffer.
     fn beside(&self, len: usize, side: Side) -> (usize, usize) {
         match side {
             Side::Start => (len, self.len),
@@ -194,13 +197,13 @@ impl Region {
         }
     }
 
-    /// Tells of that part.
-    fn tell(&self, watch: Watch, len: usize, side: Side, forbidden: bool) {
+    /// Passes that part to `watch`.
+    fn watch_beside(&self, watch: Watch, len: usize, side: Side, forbidden: bool) {
         let (from, to) = self.beside(len, side);
         watch(self.start.wrapping_add(from), to - from, forbidden);
     }
 
-    /// Whether what is not lent still holds its canaries.
+    /// Whether that part still holds its canaries.
     fn canaries_live(&self, len: usize, side: Side) -> bool {
         let (mut at, end) = self.beside(len, side);
         while at < end {
@@ -213,13 +216,13 @@ impl Region {
         true
     }
 
-    /// Puts canaries where the slice lay.
-    fn take_back(&self, len: usize, side: Side) {
+    /// Puts canaries where the buffer lay.
+    fn remove(&self, len: usize, side: Side) {
         if self.len > PAGE {
             return self.fill_with_canaries();
         }
         let from = self.offset(len, side);
-        // SAFETY: where the slice lay in the only page.
+        // SAFETY: where the buffer lay in the only page.
         unsafe { ptr::copy_nonoverlapping(CANARIES.0[from..].as_ptr(), self.start.add(from), len) };
     }
 
@@ -230,8 +233,8 @@ impl Region {
         self.fill_with_canaries();
     }
 
-    /// How far outside the slice an address in a forbidden page is, if it is in one of this region's.
-    fn told(&self, address: usize, len: usize, side: Side) -> Option<String> {
+    /// How far outside the buffer an address in a forbidden page is, if the page is one of this region's.
+    fn distance(&self, address: usize, len: usize, side: Side) -> Option<String> {
         let from = self.start as usize + self.offset(len, side);
         if (self.start as usize - GAP..from).contains(&address) {
             Some(format!("{} before its start", from - address))
@@ -243,38 +246,39 @@ impl Region {
     }
 }
 
-/// A slice that is passed: its name, its bytes, and if it may be written to, where they go after the call.
-pub struct Loan<'a> {
+/// A buffer of a call: its name, its bytes, and for one that may be written, where they go after the call.
+pub struct Buffer<'a> {
     pub name: &'static str,
     pub bytes: &'a [u8],
     pub after: Option<&'a mut Vec<u8>>,
 }
 
-impl<'a> Loan<'a> {
+impl<'a> Buffer<'a> {
     pub fn read(name: &'static str, bytes: &'a [u8]) -> Self {
-        Loan { name, bytes, after: None }
+        Buffer { name, bytes, after: None }
     }
 
     pub fn written(name: &'static str, bytes: &'a [u8], after: &'a mut Vec<u8>) -> Self {
-        Loan { name, bytes, after: Some(after) }
+        Buffer { name, bytes, after: Some(after) }
     }
 }
 
-/// No call has more slices.
-const SLICES: usize = 5;
+/// No call has more buffers.
+const BUFFERS: usize = 5;
 
-/// Told of bytes beside a guarded slice, in its own pages, before a call (true) and after it (false). A sanitiser can then forbid
-/// them to the byte where the forbidden pages do not reach.
+/// Called with the bytes beside a buffer, in its own pages, before a call (true) and after it (false). A sanitiser can forbid these
+/// bytes, which lie between the buffer and the forbidden pages.
 pub type Watch = fn(at: *const u8, len: usize, forbidden: bool);
 
-/// All that can be lent: for each slice of a call, the regions by number of pages.
+/// For each buffer of a call, the regions by number of pages.
 #[derive(Default)]
-pub struct Lender {
-    regions: [Vec<Option<Region>>; SLICES],
+pub struct GuardedMemory {
+    regions: [Vec<Option<Region>>; BUFFERS],
     pub watch: Option<Watch>,
 }
 
-/// Slices of more pages than this share regions of twice the size, or there would be one for every length of a large plane.
+/// Buffers of more pages than this share regions whose size is a power of two, or there would be one for every length of a large
+/// plane.
 const EXACT_PAGES: usize = 64;
 
 fn region_for(regions: &mut Vec<Option<Region>>, len: usize) -> &Region {
@@ -288,60 +292,60 @@ fn region_for(regions: &mut Vec<Option<Region>>, len: usize) -> &Region {
     regions[pages].get_or_insert_with(|| Region::new(pages))
 }
 
-impl Lender {
-    /// Calls a function with the slices of a case, which lie at this side of their pages. Answers what it answered, and what
-    /// it did that it may not do, if anything.
+impl GuardedMemory {
+    /// Calls a function with the buffers of a case at this side of their pages. Returns its answer, and what it did outside the
+    /// bytes that it may write, if anything.
     pub fn call<const N: usize>(
         &mut self,
         case: View<'_>,
         side: Side,
-        loans: [Loan<'_>; N],
+        buffers: [Buffer<'_>; N],
         function: impl FnOnce([*mut u8; N]) -> i64,
     ) -> (i64, Option<String>) {
         let mut slots = self.regions.iter_mut();
         let regions: [&Region; N] =
-            array::from_fn(|at| region_for(slots.next().expect("a slot for each slice"), loans[at].bytes.len()));
-        let lent = array::from_fn(|at| regions[at].lend(loans[at].bytes, side));
+            array::from_fn(|at| region_for(slots.next().expect("a slot for each buffer"), buffers[at].bytes.len()));
+        let addresses = array::from_fn(|at| regions[at].place(buffers[at].bytes, side));
         let watch = |forbidden| {
             if let Some(watch) = self.watch {
                 regions
                     .iter()
-                    .zip(&loans)
-                    .for_each(|(region, loan)| region.tell(watch, loan.bytes.len(), side, forbidden));
+                    .zip(&buffers)
+                    .for_each(|(region, buffer)| region.watch_beside(watch, buffer.bytes.len(), side, forbidden));
             }
         };
         watch(true);
         TOUCHED.set(0);
         CURRENT.set((&raw const case).cast());
-        let answer = function(lent);
+        let answer = function(addresses);
         CURRENT.set(ptr::null());
         watch(false);
-        let harm = harm_done(&regions, &loans, side);
-        for (region, loan) in regions.into_iter().zip(loans) {
-            let len = loan.bytes.len();
-            if let Some(after) = loan.after {
+        let harm = harm_done(&regions, &buffers, side);
+        for (region, buffer) in regions.into_iter().zip(buffers) {
+            let len = buffer.bytes.len();
+            if let Some(after) = buffer.after {
                 after.clear();
-                after.extend_from_slice(region.lent(len, side));
+                after.extend_from_slice(region.content(len, side));
             }
             if harm.is_some() {
                 region.restore();
             } else {
-                region.take_back(len, side);
+                region.remove(len, side);
             }
         }
         (answer, harm)
     }
 }
 
-/// What a call did outside the slices that it may write to, if anything.
-fn harm_done(regions: &[&Region], loans: &[Loan<'_>], side: Side) -> Option<String> {
+/// What a call did outside the bytes that it may write, if anything.
+fn harm_done(regions: &[&Region], buffers: &[Buffer<'_>], side: Side) -> Option<String> {
     let touched = TOUCHED.replace(0);
     if touched != 0 {
-        return Some(touch_told(regions, loans, side, touched));
+        return Some(describe_touch(regions, buffers, side, touched));
     }
-    for (region, loan) in regions.iter().zip(loans) {
-        let (name, len) = (loan.name, loan.bytes.len());
-        if loan.after.is_none() && region.lent(len, side) != loan.bytes {
+    for (region, buffer) in regions.iter().zip(buffers) {
+        let (name, len) = (buffer.name, buffer.bytes.len());
+        if buffer.after.is_none() && region.content(len, side) != buffer.bytes {
             return Some(format!("writes to the {name}"));
         }
         if !region.canaries_live(len, side) {
@@ -351,12 +355,12 @@ fn harm_done(regions: &[&Region], loans: &[Loan<'_>], side: Side) -> Option<Stri
     None
 }
 
-/// Outside which slice the address lies, and how far.
-fn touch_told(regions: &[&Region], loans: &[Loan<'_>], side: Side, address: usize) -> String {
-    for (region, loan) in regions.iter().zip(loans) {
-        if let Some(place) = region.told(address, loan.bytes.len(), side) {
-            return format!("touches a byte outside the {}, {place}", loan.name);
+/// Outside which buffer the address lies, and how far.
+fn describe_touch(regions: &[&Region], buffers: &[Buffer<'_>], side: Side, address: usize) -> String {
+    for (region, buffer) in regions.iter().zip(buffers) {
+        if let Some(distance) = region.distance(address, buffer.bytes.len(), side) {
+            return format!("touches a byte outside the {}, {distance}", buffer.name);
         }
     }
-    "touches a byte far from what was lent".to_owned()
+    "touches a byte far from the buffers of the call".to_owned()
 }

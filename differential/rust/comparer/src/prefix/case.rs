@@ -1,13 +1,13 @@
-//! One case of the prefix theorem (demand 3).
+//! One case of the prefix theorem (FORMAT 9).
 
 use crate::bytes;
 use crate::case::MAX_SIDE;
-use crate::demand::Model;
+use crate::prefix::Model;
 use std::fmt;
 
 /// A plane, how many bytes of its packing are unpacked again, what follows them, and what the destination holds before.
 #[derive(Clone, Debug, PartialEq, Eq)]
-pub struct Demand {
+pub struct PrefixCase {
     pub width: usize,
     pub height: usize,
     pub samples: Vec<u8>,
@@ -16,10 +16,10 @@ pub struct Demand {
     pub before: Vec<u8>,
 }
 
-impl Demand {
-    /// Whether the demand speaks of it: sides, samples and destination large enough, no more bytes than the packing has, and
+impl PrefixCase {
+    /// Whether the theorem applies: sides within their limits, enough samples and room, no more bytes than the packing has, and
     /// nothing following unless all of them are taken.
-    pub fn is_meant(&self) -> bool {
+    pub fn is_valid(&self) -> bool {
         let sides = 1..=MAX_SIDE;
         if !sides.contains(&self.width) || !sides.contains(&self.height) {
             return false;
@@ -28,8 +28,8 @@ impl Demand {
         if self.samples.len() < plane || self.before.len() < plane {
             return false;
         }
-        let whole = self.packed_len();
-        self.taken == whole || self.taken < whole && self.following.is_empty()
+        let packed = self.packed_len();
+        self.taken == packed || self.taken < packed && self.following.is_empty()
     }
 
     /// The length of the plane's packing.
@@ -37,13 +37,13 @@ impl Demand {
         Model::of(&self.samples, self.width, self.height).packing.len()
     }
 
-    /// Reads `d3 WIDTH HEIGHT SAMPLES M FOLLOWING DST`.
-    pub fn parse(text: &str) -> Option<Demand> {
+    /// Reads `px WIDTH HEIGHT SAMPLES M FOLLOWING DST`.
+    pub fn parse(text: &str) -> Option<PrefixCase> {
         let words: Vec<&str> = text.split_whitespace().collect();
-        let ["d3", width, height, samples, taken, following, before] = words[..] else {
+        let ["px", width, height, samples, taken, following, before] = words[..] else {
             return None;
         };
-        Some(Demand {
+        Some(PrefixCase {
             width: width.parse().ok()?,
             height: height.parse().ok()?,
             samples: bytes::parse(samples)?,
@@ -51,13 +51,13 @@ impl Demand {
             following: bytes::parse(following)?,
             before: bytes::parse(before)?,
         })
-        .filter(Demand::is_meant)
+        .filter(PrefixCase::is_valid)
     }
 }
 
-impl fmt::Display for Demand {
+impl fmt::Display for PrefixCase {
     fn fmt(&self, f: &mut fmt::Formatter<'_>) -> fmt::Result {
         let [samples, following, before] = [&self.samples, &self.following, &self.before].map(|some| bytes::text(some));
-        write!(f, "d3 {} {} {samples} {} {following} {before}", self.width, self.height, self.taken)
+        write!(f, "px {} {} {samples} {} {following} {before}", self.width, self.height, self.taken)
     }
 }

@@ -1,6 +1,5 @@
-//! The packing of a plane as document 01 has it, written from its sections "A plane and its rows" and "A segment" alone:
-//! which segments a row has, in which bytes each is written, and for how many coded values each stands. No packer and no
-//! unpacker is asked.
+//! The packing of a plane, written from FORMAT 3 to 5 alone: which segments a row has, in which bytes each is written, and for
+//! how many coded values each stands. No packer and no unpacker is called.
 
 /// Raw values that one control byte can have, and values of its run besides.
 const MOST_RAW: usize = 15;
@@ -110,14 +109,14 @@ impl Model {
         self.ends.push(End { bytes: self.packing.len(), values });
     }
 
-    /// How many values stand in the segments that lie whole within the first `taken` bytes.
+    /// The number of values of the segments that are complete within the first `taken` bytes.
     fn values_within(&self, taken: usize) -> usize {
-        let whole = self.ends.partition_point(|end| end.bytes <= taken);
-        whole.checked_sub(1).map_or(0, |last| self.ends[last].values)
+        let complete = self.ends.partition_point(|end| end.bytes <= taken);
+        complete.checked_sub(1).map_or(0, |last| self.ends[last].values)
     }
 
-    /// What the prefix theorem (demand 3) wants in a destination that is unpacked to from the first `taken` bytes: the samples of the rows that
-    /// these hold, the coded values of the next row's whole segments, and the rest as it was. No segment passes a row's end.
+    /// What the prefix theorem says of a destination after the first `taken` bytes are unpacked: the samples of the complete
+    /// rows, the coded values of the next row's complete segments, and the rest unchanged. No segment overruns its row.
     pub fn fill(&self, samples: &[u8], width: usize, taken: usize, destination: &mut [u8]) {
         let values = self.values_within(taken);
         let rows = values / width * width;
@@ -131,7 +130,7 @@ mod tests {
     use super::Model;
     use crate::bytes;
 
-    /// Document 01's examples of packing: the samples, the width, the packing.
+    /// Examples of FORMAT 10: the samples, the width, the packing.
     const EXAMPLES: [(&str, usize, &str); 11] = [
         ("05", 1, "1005"),
         ("07*4", 4, "1307"),
@@ -147,7 +146,7 @@ mod tests {
     ];
 
     #[test]
-    fn examples_of_document_01() {
+    fn examples_of_packing() {
         for (samples, width, packing) in EXAMPLES {
             let samples = bytes::parse(samples).unwrap();
             let model = Model::of(&samples, width, samples.len() / width);
@@ -156,7 +155,7 @@ mod tests {
     }
 
     #[test]
-    fn example_14_cut_at_6() {
+    fn example_14_truncated_to_6_bytes() {
         let samples: Vec<u8> = [[9; 17], [10; 17]].concat();
         let model = Model::of(&samples, 17, 2);
         assert_eq!(model.packing, [0x1F, 9, 0x10, 9, 0x1F, 2, 0x10, 2]);

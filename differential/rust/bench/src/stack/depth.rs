@@ -1,16 +1,16 @@
-//! A stack of our own, filled with one byte before a call: what the call touched has another one.
+//! A stack of its own for a call, filled with one byte value before it. Bytes with another value after it were written by the call.
 
 use std::cell::Cell;
 use std::ffi::c_void;
 use std::ptr::{addr_of_mut, null_mut};
 
 const SIZE: usize = 1 << 18;
-/// So much must stay untouched at the far end, or the call was near to leaving the stack.
+/// So many bytes must stay untouched at the far end, or the call could have left the stack.
 const SPARE: usize = SIZE / 2;
-/// With two of them no byte that is written can be taken for paint both times.
-const PAINTS: [u8; 2] = [0xA5, 0x5A];
+/// A call may write the fill value itself. It cannot write both of these to one place, as the call is made once with each.
+const FILLS: [u8; 2] = [0xA5, 0x5A];
 
-/// The start of glibc's `ucontext_t` on x86-64; what follows is its own, and is given room enough.
+/// The start of glibc's `ucontext_t` on x86-64; what follows is its own, and has enough room here.
 #[repr(C, align(16))]
 struct Context {
     flags: u64,
@@ -33,7 +33,7 @@ impl Context {
     }
 }
 
-/// What the other stack is to run. A context's function is handed no pointer.
+/// What the other stack is to run. A context's function takes no pointer.
 type Work = *mut (dyn FnMut() + 'static);
 
 thread_local! {
@@ -42,18 +42,18 @@ thread_local! {
 
 extern "C" fn run() {
     let work = WORK.take().expect("something to run");
-    // SAFETY: it is borrowed by `run_on` until this comes back.
+    // SAFETY: it is borrowed by `run_on` until this returns.
     unsafe { (*work)() }
 }
 
 /// Runs this on a stack that lies in these bytes.
 fn run_on(stack: &mut [u8], work: &mut dyn FnMut()) {
     let work: *mut (dyn FnMut() + '_) = work;
-    // SAFETY: only the lifetime changes; `run` takes it before this function comes back.
+    // SAFETY: only the lifetime changes; `run` takes it before this function returns.
     WORK.set(Some(unsafe { std::mem::transmute::<*mut (dyn FnMut() + '_), Work>(work) }));
     let (mut here, mut there) = (Context::empty(), Context::empty());
-    // SAFETY: the contexts have room for what the C library keeps in them; the stack is passed for as long as it is used; `run`
-    // comes back to `here` by the link.
+    // SAFETY: the contexts have room for what the C library keeps in them; the stack is valid as long as it is used; `run`
+    // returns to `here` by the link.
     unsafe {
         assert_eq!(getcontext(addr_of_mut!(there)), 0, "getcontext");
         there.link = addr_of_mut!(here);
@@ -66,12 +66,12 @@ fn run_on(stack: &mut [u8], work: &mut dyn FnMut()) {
 
 /// How far down the stack this goes, in bytes from the stack's upper end.
 pub fn depth(work: &mut dyn FnMut()) -> usize {
-    let touched = |paint: u8| {
-        let mut stack = vec![paint; SIZE];
+    let touched = |fill: u8| {
+        let mut stack = vec![fill; SIZE];
         run_on(&mut stack, work);
-        let untouched = stack.iter().take_while(|&&byte| byte == paint).count();
+        let untouched = stack.iter().take_while(|&&byte| byte == fill).count();
         assert!(SPARE <= untouched, "the call goes down more than {SPARE} bytes");
         SIZE - untouched
     };
-    PAINTS.map(touched).into_iter().max().expect("two paints")
+    FILLS.map(touched).into_iter().max().expect("two fills")
 }

@@ -1,8 +1,8 @@
-//! A case of an entry told by bytes, of which any will do: first some that choose sides, lengths and forms, each always in its
-//! place, so that one that a fuzzer changes changes one thing; then what fills the slices.
+//! Makes a case of an entry from any bytes, such as a fuzzer's. The first bytes choose sides, lengths and forms; each has a fixed place,
+//! so that a fuzzer that changes one byte changes one choice. The rest fills the buffers.
 
 use crate::entry::Entry;
-use comparer::case::{Operation, MAX_SIDE, TELLING_SIDES};
+use comparer::case::{Operation, BOUNDARY_SIDES, MAX_SIDE};
 use comparer::encoding::{Encoding, OwnedEncoding, Sources};
 use comparer::picture::{Form, OwnedPicture, Sizes};
 use comparer::planes::counts;
@@ -11,21 +11,21 @@ use comparer::{Input, Owned};
 /// A plane inside the domain has at most so many samples, so that no case takes long.
 const MOST_SAMPLES: usize = 1 << 13;
 
-/// The length of a slice where the sides say none.
+/// The length of a buffer where the sides are refused.
 const SOME: usize = 24;
 
-/// The case that these bytes tell.
-pub fn case(entry: Entry, bytes: &[u8]) -> Input {
-    let mut told = Told { rest: bytes, at: 0 };
+/// The case that these bytes make.
+pub fn case_from_bytes(entry: Entry, bytes: &[u8]) -> Input {
+    let mut maker = CaseMaker { rest: bytes, at: 0 };
     match entry {
-        Entry::Unpack => told.unpack(),
-        Entry::Pack => told.pack(),
-        Entry::Decode => told.decode(),
-        Entry::Sizes => told.sizes(),
-        Entry::Channels => told.channels(false),
-        Entry::ChannelsAlpha => told.channels(true),
-        Entry::Bitmap => told.bitmap(false),
-        Entry::BitmapAlpha => told.bitmap(true),
+        Entry::Unpack => maker.unpack(),
+        Entry::Pack => maker.pack(),
+        Entry::Decode => maker.decode(),
+        Entry::Sizes => maker.sizes(),
+        Entry::Channels => maker.channels(false),
+        Entry::ChannelsAlpha => maker.channels(true),
+        Entry::Bitmap => maker.bitmap(false),
+        Entry::BitmapAlpha => maker.bitmap(true),
     }
 }
 
@@ -39,14 +39,13 @@ enum Making {
     Packed,
 }
 
-/// Bytes that tell a case. Those that choose are taken off the front; what is left then fills slices, again and again if it is
-/// short.
-struct Told<'a> {
+/// The bytes of a case. Those that choose are taken from the front; the rest fills buffers, repeated if it is short.
+struct CaseMaker<'a> {
     rest: &'a [u8],
     at: usize,
 }
 
-impl Told<'_> {
+impl CaseMaker<'_> {
     fn byte(&mut self) -> u8 {
         let Some((&first, rest)) = self.rest.split_first() else {
             return 0;
@@ -55,7 +54,7 @@ impl Told<'_> {
         first
     }
 
-    /// The next byte of what fills slices.
+    /// The next byte of what fills buffers.
     fn next(&mut self) -> u8 {
         let byte = self.rest.get(self.at).copied().unwrap_or(0);
         self.at = if self.at + 1 < self.rest.len() { self.at + 1 } else { 0 };
@@ -72,7 +71,7 @@ impl Told<'_> {
         match form {
             0..=191 => 1 + value % 32,
             192..=231 => 1 + value,
-            _ => TELLING_SIDES[value % TELLING_SIDES.len()],
+            _ => BOUNDARY_SIDES[value % BOUNDARY_SIDES.len()],
         }
     }
 
@@ -101,7 +100,7 @@ impl Told<'_> {
         }
     }
 
-    /// What a slice holds before a call: different from place to place and from case to case.
+    /// What a buffer holds before a call: different from place to place and from case to case.
     fn before(&mut self, len: usize) -> Vec<u8> {
         let seed = u64::from(self.byte()) << 32;
         (0..len as u64).map(|at| ((at + seed).wrapping_mul(0x9E37_79B9_7F4A_7C15) >> 53) as u8).collect()
@@ -115,7 +114,7 @@ impl Told<'_> {
         }
     }
 
-    /// A body of planes of these sides, which are inside the domain, perhaps cut, longer or with a byte changed.
+    /// A body of planes of these sides, which are inside the domain, perhaps truncated, longer or with a byte changed.
     fn body(&mut self, planes: &[(usize, usize)]) -> Vec<u8> {
         let (making, harm, place, value) = (self.making(), self.byte(), self.byte(), self.byte());
         let mut body = Vec::new();
@@ -128,7 +127,7 @@ impl Told<'_> {
                 Making::Fitted => self.fitted(width, height, &mut body),
                 Making::Packed => {
                     let samples = self.bytes(width * height);
-                    body.extend(original::pack(&samples, width, height).expect("whole planes with room"));
+                    body.extend(original::pack(&samples, width, height).expect("complete planes with room"));
                 }
             }
         }
@@ -173,34 +172,43 @@ impl Told<'_> {
         } else {
             2 * samples(width, height)
         };
-        let before = with_byte(room, |told| told.length(packed));
-        let before = with_byte(seed, |told| told.before(before));
+        let before = with_byte(room, |maker| maker.length(packed));
+        let before = with_byte(seed, |maker| maker.before(before));
         Input::Call(Owned { operation: Operation::Pack, width, height, source, before })
     }
 
+    /// Mostly a definition and a level inside the domain, sometimes others, also such as do not fit a byte.
     fn form(&mut self) -> Form {
         let (flags, definition, level) = (self.byte(), self.byte(), self.byte());
         let flag = |bit: u8| flags >> bit & 1 == 1;
-        let definition = if definition < 248 { definition % 2 } else { definition };
-        let level = if level < 224 { level % 8 } else { level };
+        let definition = match definition {
+            0..=215 => u32::from(definition % 2),
+            216..=223 => u32::from(definition),
+            _ => wide_number(definition),
+        };
+        let level = match level {
+            0..=191 => u32::from(level % 8),
+            192..=223 => u32::from(level),
+            _ => wide_number(level),
+        };
         Form { rle: flag(0), alpha: flag(1), definition, level, subsampled: flag(2) }
     }
 
     fn decode(&mut self) -> Input {
         let (form, (width, height)) = (self.form(), self.sides());
         let inside = is_inside(width, height);
-        let (least_work, least_body) = match inside {
-            true => (form.work_len(width, height), form.least_body(width, height)),
+        let (min_work, min_body) = match inside {
+            true => (form.work_len(width, height), form.min_body(width, height)),
             false => (SOME, SOME),
         };
-        let work_len = self.length(least_work);
+        let work_len = self.length(min_work);
         let image_len = self.length(3 * samples(width, height));
         let body_len = self.byte();
         let (work, image) = (self.before(work_len), self.before(image_len));
         let body = if form.rle && inside {
             self.body(&planes_of(form, width, height))
         } else {
-            let len = with_byte(body_len, |told| told.length(least_body));
+            let len = with_byte(body_len, |maker| maker.length(min_body));
             self.bytes(len)
         };
         Input::Picture(OwnedPicture { width, height, form, body, work, image })
@@ -215,7 +223,7 @@ impl Told<'_> {
         Input::Sizes(Sizes { width, height, rle, definition, subsampled })
     }
 
-    /// Any number, its high bytes last, so that few bytes tell a small one.
+    /// Any number, its high bytes last, so that few bytes make a small one.
     fn word(&mut self) -> usize {
         (0..8).map(|at| usize::from(self.byte()) << (8 * at)).sum()
     }
@@ -238,16 +246,27 @@ impl Told<'_> {
     }
 }
 
-/// What one byte chooses, which was taken earlier.
-fn with_byte<T>(byte: u8, choose: impl FnOnce(&mut Told<'_>) -> T) -> T {
-    choose(&mut Told { rest: &[byte], at: 0 })
+/// A number that does not fit a byte, and most of which are 0 to 7 if they are truncated to one byte or two.
+fn wide_number(byte: u8) -> u32 {
+    let low = u32::from(byte & 7);
+    match byte >> 3 & 3 {
+        0 => (1 << 8) + low,
+        1 => (1 << 16) + low,
+        2 => (1 << 31) + low,
+        _ => u32::MAX - low,
+    }
+}
+
+/// What a byte chooses that was taken from the front before.
+fn with_byte<T>(byte: u8, choose: impl FnOnce(&mut CaseMaker<'_>) -> T) -> T {
+    choose(&mut CaseMaker { rest: &[byte], at: 0 })
 }
 
 fn is_inside(width: usize, height: usize) -> bool {
     (1..=MAX_SIDE).contains(&width) && (1..=MAX_SIDE).contains(&height)
 }
 
-/// The samples of a plane, or some where the sides are refused.
+/// The samples of a plane, or `SOME` where the sides are refused.
 fn samples(width: usize, height: usize) -> usize {
     if is_inside(width, height) {
         width * height
@@ -290,26 +309,46 @@ fn encoding(
     } else {
         2 * case.sources.planes() * samples(width, height) + 1
     };
-    let len = with_byte(room, |told| told.length(exact));
-    let before = with_byte(seed, |told| told.before(len));
+    let len = with_byte(room, |maker| maker.length(exact));
+    let before = with_byte(seed, |maker| maker.before(len));
     Input::Encoding(Encoding { before, ..case })
 }
 
 #[cfg(test)]
 mod tests {
-    use super::case;
-    use crate::entry::ENTRIES;
+    use super::case_from_bytes;
+    use crate::entry::{Entry, ENTRIES};
     use comparer::{Input, Rng};
+    use std::collections::BTreeSet;
 
-    /// Any bytes tell a case, which its text tells too.
+    /// Any bytes make a case, and the case's text is read as the same case.
     #[test]
     fn every_input_is_a_case() {
         let mut rng = Rng::new(5);
         for entry in ENTRIES {
             for len in 0..60 {
-                let told = case(entry, &rng.bytes(len));
-                assert_eq!(Input::parse(&told.to_string()), Some(told));
+                let case = case_from_bytes(entry, &rng.bytes(len));
+                assert_eq!(Input::parse(&case.to_string()), Some(case));
             }
+        }
+    }
+
+    /// The second byte chooses the definition, the third one the level.
+    #[test]
+    fn definitions_and_levels_of_every_width_are_reached() {
+        let (mut definitions, mut levels) = (BTreeSet::new(), BTreeSet::new());
+        for byte in 0..=255 {
+            let Input::Picture(case) = case_from_bytes(Entry::Decode, &[0, byte, byte]) else { panic!("no picture") };
+            definitions.insert(case.form.definition);
+            levels.insert(case.form.level);
+            let Input::Sizes(sizes) = case_from_bytes(Entry::Sizes, &[0, byte]) else { panic!("no sizes") };
+            assert_eq!(sizes.definition, case.form.definition);
+        }
+        for number in [0, 1, 216, 223, 256, 257, 65_536, 65_537, 1 << 31, (1 << 31) + 1, u32::MAX - 1, u32::MAX] {
+            assert!(definitions.contains(&number), "no definition {number}");
+        }
+        for number in [0, 1, 7, 192, 223, 256, 257, 263, 65_537, (1 << 31) + 1, u32::MAX - 1, u32::MAX] {
+            assert!(levels.contains(&number), "no level {number}");
         }
     }
 }
