@@ -1,5 +1,5 @@
 //! The stored cases of crates/vectors/data, called through the functions of this crate. Most of the expected answers are IronRDP's, the rest
-//! is written from docs/FORMAT.md. docs/TESTS.md describes the cases, differential/README.md the form of a line.
+//! is written from docs/FORMAT.md. docs/TESTS.md describes the cases and the form of a line.
 
 mod support;
 

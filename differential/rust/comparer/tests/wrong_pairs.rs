@@ -13,7 +13,7 @@ const SEVEN_IF_TRUNCATED: u8 = 2;
 const INVENTED_COUNT: u8 = 3;
 const COUNT_IS_ALL: u8 = 4;
 const NEXT_ROW_AS_SAMPLES: u8 = 5;
-const NEXT_ROW_UNTOUCHED: u8 = 6;
+const NEXT_ROW_UNCHANGED: u8 = 6;
 const NEXT_ROW_CLEARED: u8 = 7;
 const HALF_A_SEGMENT: u8 = 8;
 const LAST_ROW_CODED: u8 = 9;
@@ -69,7 +69,7 @@ fn spoil_truncated<const MISTAKE: u8>(slices: &mut Slices, before: &[u8], width:
     let next = filled / width * width;
     match MISTAKE {
         SEVEN_IF_TRUNCATED => slices.destination().copy_from_slice(before),
-        NEXT_ROW_UNTOUCHED => slices.destination()[next..].copy_from_slice(&before[next..]),
+        NEXT_ROW_UNCHANGED => slices.destination()[next..].copy_from_slice(&before[next..]),
         NEXT_ROW_CLEARED => slices.destination()[filled..next + width].fill(0),
         NEXT_ROW_AS_SAMPLES if next > 0 => (next..filled)
             .for_each(|at| slices.write(at, slices.sample(at - width).wrapping_add(undelta(slices.sample(at))))),
@@ -214,8 +214,8 @@ fn the_next_row_as_samples() {
 }
 
 #[test]
-fn the_next_row_untouched() {
-    is_found(exported::<Unpacker<NEXT_ROW_UNTOUCHED>>, "px 5 1 00*4,01 2 - EE*5");
+fn the_next_row_unchanged() {
+    is_found(exported::<Unpacker<NEXT_ROW_UNCHANGED>>, "px 5 1 00*4,01 2 - EE*5");
 }
 
 #[test]

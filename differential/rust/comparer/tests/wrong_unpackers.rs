@@ -24,7 +24,7 @@ const ROOM_BEFORE_SIDES: u8 = 11;
 const LARGE_BEFORE_ZERO: u8 = 12;
 const PRODUCT_WRAPS: u8 = 13;
 const SIDES_OF_8193: u8 = 14;
-const REFUSED_ROW_UNTOUCHED: u8 = 15;
+const REFUSED_ROW_UNCHANGED: u8 = 15;
 const REFUSED_ROW_ADDED: u8 = 16;
 const ZERO_CONTROL_SKIPPED: u8 = 17;
 const REST_CLEARED: u8 = 18;
@@ -129,7 +129,7 @@ fn row<const MISTAKE: u8>(slices: &Slices, reader: &mut Reader, row: usize, widt
             }
             Ok(count) => column += count,
             Err(number) => {
-                if MISTAKE == REFUSED_ROW_UNTOUCHED {
+                if MISTAKE == REFUSED_ROW_UNCHANGED {
                     (0..width).for_each(|i| slices.write(start + i, earlier[i]));
                 }
                 if MISTAKE == REFUSED_ROW_ADDED && row > 0 {
@@ -277,7 +277,7 @@ fn sides_of_8193_taken() {
 
 #[test]
 fn a_refused_row_left_as_it_was() {
-    is_found(exported::<Unpacker<REFUSED_ROW_UNTOUCHED>>, "pu 2 1 1000 EEEE");
+    is_found(exported::<Unpacker<REFUSED_ROW_UNCHANGED>>, "pu 2 1 1000 EEEE");
 }
 
 #[test]

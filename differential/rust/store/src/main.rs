@@ -12,7 +12,7 @@
 //!   WIDTH HEIGHT RLE ALPHA ROOM ANSWER SENTRLE SENTALPHA SENTDEFINITION R G B A AFTER
 //!   WIDTH HEIGHT RLE ALPHA ROOM ANSWER SENTRLE SENTALPHA SENTDEFINITION PIXELS AFTER
 //!
-//! README.md has the format. The samples are the same in every run. `USAGE` has the command line.
+//! docs/TESTS.md has the format. The samples are the same in every run. `USAGE` has the command line.
 
 mod encoding_sample;
 mod encodings;

@@ -5,7 +5,7 @@ use std::ffi::c_void;
 use std::ptr::{addr_of_mut, null_mut};
 
 const SIZE: usize = 1 << 18;
-/// So many bytes must stay untouched at the far end, or the call could have left the stack.
+/// So many bytes must stay unchanged at the far end, or the call could have left the stack.
 const SPARE: usize = SIZE / 2;
 /// A call may write the fill value itself. It cannot write both of these to one place, as the call is made once with each.
 const FILLS: [u8; 2] = [0xA5, 0x5A];
@@ -69,9 +69,9 @@ pub fn depth(work: &mut dyn FnMut()) -> usize {
     let touched = |fill: u8| {
         let mut stack = vec![fill; SIZE];
         run_on(&mut stack, work);
-        let untouched = stack.iter().take_while(|&&byte| byte == fill).count();
-        assert!(SPARE <= untouched, "the call goes down more than {SPARE} bytes");
-        SIZE - untouched
+        let unchanged = stack.iter().take_while(|&&byte| byte == fill).count();
+        assert!(SPARE <= unchanged, "the call goes down more than {SPARE} bytes");
+        SIZE - unchanged
     };
     FILLS.map(touched).into_iter().max().expect("two fills")
 }
