@@ -43,7 +43,7 @@
 //! | [`decompress_8bpp_plane`], [`compress_8bpp_plane`] | no | unpacks and packs an RLE plane |
 //!
 //! The modules [`rle`], [`bitmap_stream::decoder`] and [`bitmap_stream::encoder`] have the names of IronRDP's, so that a service that used it
-//! changes the root of its `use` lines. docs/DIFFERENCES.md of the repository, "The Rust binding", lists what else changes.
+//! changes the root of its `use` lines. README.md, "Moving from IronRDP", lists what else changes.
 //!
 //! # Header byte
 //!
@@ -51,24 +51,25 @@
 //! loss level, 0 for ARGB; bit 3 (`0x08`) is subsampling, bit 4 (`0x10`) RLE, bit 5 (`0x20`) *no* alpha. [`BitmapStreamHeader`] has a table
 //! and an example.
 //!
-//! **Four planes.** A sender sets the alpha flag (header byte `0x10` for RLE, `0x00` for raw); whoever unpacks passes `use_alpha` as true.
+//! **Four planes.** The `use_alpha` that a packer returns is false for them too: a sender sets it (header byte `0x10` for RLE, `0x00` for raw);
+//! whoever unpacks passes it as true.
 //!
 //! # Row order
 //!
-//! The first row in a body is the first row of the image. RDP bitmap updates carry their rows bottom up: flip the rows to show one, or to compare
-//! with a codec that flips, as FreeRDP's does.
+//! The first row in a body is the first row of the image. RDP bitmap updates carry their rows bottom up: flip the rows after unpacking one, and
+//! before packing one. Other codecs, such as FreeRDP's, flip them by themselves.
 //!
 //! # Slices, threads, stack
 //!
 //! Width and height are each from 1 to [`MAX_SIDE`]. No slice needs an alignment. There is no state: any number of threads may call at once. A
-//! call that packs takes at most 17,440 bytes of stack, one that unpacks fewer than 500; include/rdp6.h says when the first call takes more.
+//! call that packs takes at most 17,440 bytes of stack, one that unpacks fewer than 500. The first call takes no more, since rustc links with `-z now` by default.
 //! Backtraces end in the library, since it has no unwind tables.
 //!
 //! # What is proved, and what must be believed
 //!
 //! Every function of the library is proved, for every input, to return, to stay inside its slices, and to give the answer and the bytes
 //! of its definition; see the repository's README. This crate is not proved. It is small: it passes slices with their lengths, converts the
-//! results, sets the header record to send, and extends vectors. Tests compare its declarations of the C functions, its numbers and its texts
+//! results, makes the header record of a packed picture, and extends vectors. Tests compare its declarations of the C functions, its numbers and its texts
 //! with include/rdp6.h.
 
 #![deny(missing_docs, unsafe_op_in_unsafe_fn)]

@@ -30,7 +30,7 @@ pub type RleEncodeError = Refusal;
 /// | 1 | `width` or `height` is 0 | unchanged |
 /// | 2 | `width` or `height` is over 8,192 | unchanged |
 /// | 10 | `dst` is shorter than `width` × `height` | unchanged |
-/// | 7 | a control byte or a raw byte is missing | the rows before are complete; the refused row has the coded values of its earlier segments, the row above not yet added; the rest is unchanged |
+/// | 7 | a control byte or a raw byte is missing | the rows before are complete; the refused row has the coded values (docs/FORMAT.md, 4.1) of its earlier segments, the row above not yet added; the rest is unchanged |
 /// | 8 | a control byte is 0 | the same |
 /// | 9 | a segment overruns its row | the same |
 ///

@@ -10,6 +10,7 @@ pub record Check : Type 0 where
   pub number : ℕ
   pub given : Bool
 
+-- a check from its parts
 abbrev pub check : (number : ℕ) (given : Bool) → Check
 check n g = record { number = n; given = g }
 

@@ -14,7 +14,7 @@ rgb r g b = record { r = r; g = g; b = b }
 unfoldable pub signedByte : ℕ → ℤ
 signedByte n = choose (ltb n 128) (pos n) (pos n -ℤ pos 256)
 
--- FORMAT 6.4
+-- the value of a chroma sample (FORMAT 6.4)
 unfoldable pub chromaValue : (level byte : ℕ) → ℤ
 chromaValue level byte = signedByte (byte * 2 ^ (level - 1) % 256)
 

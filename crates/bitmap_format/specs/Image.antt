@@ -19,7 +19,7 @@ sample planes p row column = getD planes (p .offset + row * p .width + column) 0
 unfoldable pub chromaIndex : (subsampling : Bool) → ℕ → ℕ
 chromaIndex subsampling n = choose subsampling (n / 2) n
 
--- the colour of the pixel at a row and a column
+-- the colour of the pixel at a row and a column (FORMAT 6.2, 6.3, 6.5)
 unfoldable pub colourAt : ColorPlaneDefinition → (alpha : Bool) (width height : ℕ) (planes : List ℕ) (row column : ℕ) → Rgb
 colourAt Argb alpha width height planes row column =
     rgb (sample planes (firstPlane width height) row column) (sample planes (secondPlane false width height) row column)
@@ -34,11 +34,11 @@ unfoldable pub concatUpTo : ℕ → (ℕ → List ℕ) → List ℕ
 concatUpTo zero f = []
 concatUpTo (suc n) f = concatUpTo n f ++ f n
 
--- the bytes of a row of the image
+-- the bytes of a row of the image (FORMAT 6.1)
 unfoldable pub imageRow : ColorPlaneDefinition → (alpha : Bool) (width height : ℕ) (planes : List ℕ) (row : ℕ) → List ℕ
 imageRow d alpha width height planes row = concatUpTo width (λ (column : ℕ). rgb24 (colourAt d alpha width height planes row column))
 
--- the image with its first n rows written, row r from index r × pitch on
+-- the image with its first n rows written, row r from index r × `pitch` on: the distance from row to row
 unfoldable pub writeRows : (pitch : ℕ) (row : ℕ → List ℕ) (n : ℕ) (image : List ℕ) → List ℕ
 writeRows pitch row zero image = image
 writeRows pitch row (suc n) image = writeAt (writeRows pitch row n image) (n * pitch) (row n)

@@ -19,10 +19,11 @@ use Rattle.bitmap_format.specs.Checks.{Check, check, firstRefusal}
 
 -- ---- the planes, each as the list of its samples
 
--- FORMAT 7.2
+-- R, G, B (FORMAT 7.2)
 abbrev pub threePlanes : (r g b : List ℕ) → List (List ℕ)
 threePlanes r g b = r ∷ g ∷ b ∷ []
 
+-- with alpha: A, R, G, B
 abbrev pub fourPlanes : (r g b a : List ℕ) → List (List ℕ)
 fourPlanes r g b a = a ∷ threePlanes r g b
 
@@ -83,7 +84,7 @@ packPicture rle width height room planes =
 
 -- ---- the answer
 
--- the header record to send (FORMAT 7.5): `alpha` is whether there is an alpha plane, `rle` is what was asked for
+-- the header record that is returned (FORMAT 7.5; document 01: to send): `alpha` is whether there is an alpha plane, `rle` is what was asked for
 unfoldable pub headerToSend : (alpha rle : Bool) → BitmapStreamHeader
 headerToSend alpha rle = record {
   «enable_rle_compression» = rle;
@@ -96,6 +97,7 @@ pub data EncodedAnswer : Type 0 where
   encodedCount : (bytes : ℕ) (header : BitmapStreamHeader) → EncodedAnswer
   encodedRefusal : (number : ℕ) → EncodedAnswer
 
+-- the header record added to an answer (FORMAT 8.4)
 abbrev pub withHeader : BitmapStreamHeader → Answer → EncodedAnswer
 withHeader header (counted n) = encodedCount n header
 withHeader header (refused r) = encodedRefusal r

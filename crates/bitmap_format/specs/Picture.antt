@@ -28,7 +28,7 @@ pub record PictureOutcome : Type 0 where
 abbrev pub refusedPicture : (work image : List ℕ) (number : ℕ) → PictureOutcome
 refusedPicture work image r = record { work = work; image = image; answer = refused r }
 
--- the condition of refusal 3
+-- the condition of refusal 3 (FORMAT 8.1)
 unfoldable pub isLossLevelInvalid : ColorPlaneDefinition → Bool
 isLossLevelInvalid Argb = false
 isLossLevelInvalid (AYCoCg level subsampling) = eqb level 0 || ltb 7 level
@@ -65,6 +65,7 @@ unfoldable pub imageFromWork : BitmapStreamHeader → (width height : ℕ) (work
 imageFromWork header width height work image (counted n) = writeImage header width height work work image
 imageFromWork header width height work image (refused r) = refusedPicture work image r
 
+-- an RLE picture (FORMAT 2.4, 2.5)
 unfoldable pub unpackRle : BitmapStreamHeader → (width height : ℕ) (body work image : List ℕ) → PictureOutcome
 unpackRle header width height body work image =
     let u : PlanesOutcome = unpackPlanes (planesOf header width height) work body in

@@ -7,6 +7,7 @@ use Rattle.bitmap_format.specs.declared.BitmapStreamHeader.{BitmapStream
 use Rattle.bitmap_format.specs.declared.ColorPlaneDefinition.{ColorPlaneDefinition}
 use Rattle.bitmap_format.specs.declared.ColorPlaneDefinition.the-variants.{Argb, AYCoCg}
 
+-- a plane: its sides, and its offset in the work area (FORMAT 2.2, 2.5)
 pub record PlaneAt : Type 0 where
   pub width : ℕ
   pub height : ℕ
@@ -35,6 +36,7 @@ unfoldable pub thirdPlane : (subsampling : Bool) (width height : ℕ) → PlaneA
 thirdPlane s width height =
     planeAt (chromaSide s width) (chromaSide s height) (width * height + chromaSide s width * chromaSide s height)
 
+-- the colour planes (FORMAT 2.1)
 unfoldable pub colourPlanes : (subsampling : Bool) (width height : ℕ) → List PlaneAt
 colourPlanes s width height = firstPlane width height ∷ secondPlane s width height ∷ thirdPlane s width height ∷ []
 
@@ -42,6 +44,7 @@ colourPlanes s width height = firstPlane width height ∷ secondPlane s width he
 unfoldable pub alphaPlanes : (alpha : Bool) (width height : ℕ) → List PlaneAt
 alphaPlanes alpha width height = choose alpha (planeAt width height 0 ∷ []) []
 
+-- all planes, in the order of the body (FORMAT 2.1)
 unfoldable pub planesOf : BitmapStreamHeader → (width height : ℕ) → List PlaneAt
 planesOf header width height =
     alphaPlanes (header .«use_alpha») width height ++ colourPlanes (subsampled (header .«color_plane_definition»)) width height

@@ -15,20 +15,21 @@ abbrev pub minPlaneSize : (rle : Bool) → PlaneAt → ℕ
 minPlaneSize true p = p .height * ((p .width + 46) / 47)
 minPlaneSize false p = sampleCount p
 
+-- the sum of a size over planes
 unfoldable pub sumOver : (PlaneAt → ℕ) → List PlaneAt → ℕ
 sumOver size [] = 0
 sumOver size (p ∷ planes) = size p + sumOver size planes
 
--- the minimum size of the body
+-- the minimum size of the body (FORMAT 2.3, 2.4)
 unfoldable pub minBodySize : BitmapStreamHeader → (width height : ℕ) → ℕ
 minBodySize header width height = sumOver (minPlaneSize (header .«enable_rle_compression»)) (planesOf header width height)
 
--- the minimum size of the work area: the three colour planes of an RLE picture; 0 for a raw one
+-- the minimum size of the work area: the three colour planes of an RLE picture; 0 for a raw one (FORMAT 2.5)
 unfoldable pub workSize : BitmapStreamHeader → (width height : ℕ) → ℕ
 workSize header width height =
     choose (header .«enable_rle_compression») (sumOver sampleCount (colourPlanes (subsampled (header .«color_plane_definition»)) width height)) 0
 
--- the bytes of a row of the image, and of the image
+-- the bytes of a row of the image, and of the image (FORMAT 2.6)
 unfoldable pub rowSize : (width : ℕ) → ℕ
 rowSize width = 3 * width
 

@@ -19,6 +19,7 @@ pub record ChannelOffsets : Type 0 where
 abbrev pub bgrA : ChannelOffsets
 bgrA = record { stride = 4; r = 2; g = 1; b = 0; a = 3 }
 
+-- the offset of a channel in a pixel
 abbrev pub offsetOf : ChannelOffsets → Channel → ℕ
 offsetOf p R = p .r
 offsetOf p G = p .g

@@ -15,6 +15,7 @@ cLevel level = choose (leb level 7) level 0
 unfoldable pub cDefinition : (definition level : ℕ) (subsampling : Bool) → ColorPlaneDefinition
 cDefinition definition level s = choose (eqb definition 0) Argb (AYCoCg (choose (eqb definition 1) (cLevel level) 0) s)
 
+-- the header record (FORMAT 1.3)
 abbrev pub cHeader : (rle alpha : Bool) (definition level : ℕ) (subsampling : Bool) → BitmapStreamHeader
 cHeader rle alpha definition level s = record {
   «enable_rle_compression» = rle;

@@ -18,7 +18,7 @@ pub record Outcome : Type 0 where
   pub written : List ℕ
   pub answer : Answer
 
--- writes nothing
+-- the outcome of a call that writes nothing and answers a
 unfoldable pub stop : Answer → Outcome
 stop a = record { written = []; answer = a }
 
@@ -35,7 +35,7 @@ addCount n (refused r) = refused r
 unfoldable pub prepend : List ℕ → ℕ → Outcome → Outcome
 prepend vs n o = record { written = vs ++ o .written; answer = addCount n (o .answer) }
 
--- FORMAT 8.1
+-- the number of a refusal (FORMAT 8.1)
 abbrev pub number : Refusal → ℕ
 number ZeroSize = 1
 number TooLarge = 2

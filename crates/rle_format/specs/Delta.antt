@@ -5,22 +5,22 @@ use mathlib.Core.Option.{Option, none, some}
 use lib.Dec.{ltb, eqb}
 use Rattle.rle_format.specs.Choice.{choose}
 
--- d of FORMAT 4.2: value − above, modulo 256. Subtraction of naturals stops at 0, so 256 is added first
+-- d of FORMAT 4.2: sample − sample above, modulo 256. Subtraction of naturals stops at 0, so 256 is added first
 unfoldable pub difference : (above value : ℕ) → ℕ
 difference above value = (value + 256 - above) % 256
 
--- the code of d
+-- the code of d (FORMAT 4.2)
 unfoldable pub deltaCode : (above value : ℕ) → ℕ
 deltaCode above value =
     choose (ltb (difference above value) 128)
     (2 * difference above value)
     (2 * (255 - difference above value) + 1)
 
--- d from its code
+-- d from its code (FORMAT 4.3)
 unfoldable pub differenceFromCode : (code : ℕ) → ℕ
 differenceFromCode code = choose (eqb (code % 2) 0) (code / 2) (255 - (code - 1) / 2)
 
--- a sample from its code and the sample above
+-- a sample from its code and the sample above (FORMAT 4.3)
 unfoldable pub undoDelta : (above code : ℕ) → ℕ
 undoDelta above code = (above + differenceFromCode code) % 256
 

@@ -36,7 +36,7 @@ runsOf47 (suc k) last left = repeat 47 ∷ runsOf47 k last left
 unfoldable pub longRun : (last run : ℕ) → List Segment
 longRun last run = runsOf47 (run / 47) last (run % 47)
 
--- k segments of 15 raw bytes; then the other raw bytes with at most 15 of the run; then the rest of the run
+-- k segments of 15 raw bytes; then the other raw bytes with at most 15 of the run; then the rest of the run (FORMAT 5.2)
 abbrev pub literalsOf15 : (k : ℕ) (raw : List ℕ) (run : ℕ) → List Segment
 literalsOf15 zero raw run = literal raw (min run 15) ∷ longRun (lastOr 0 raw) (run - 15)
 literalsOf15 (suc k) raw run = literal (take 15 raw) 0 ∷ literalsOf15 k (drop 15 raw) run
@@ -62,12 +62,12 @@ scanSegments pending last repeats (value ∷ rest) =
       ]
     ]
 
--- the segments of a row, given its coded values
+-- the segments of a row, given its coded values (FORMAT 5.1)
 unfoldable pub rowSegments : (codes : List ℕ) → List Segment
 rowSegments [] = []
 rowSegments (value ∷ rest) = scanSegments [] value 0 rest
 
--- row r of a plane's samples; the first is row 0
+-- row r of a plane's samples; the first is row 0 (FORMAT 2.1)
 unfoldable pub rowAt : (width : ℕ) (samples : List ℕ) (r : ℕ) → List ℕ
 rowAt width samples r = take width (drop (r * width) samples)
 
@@ -76,7 +76,7 @@ unfoldable pub codesAt : (width : ℕ) (samples : List ℕ) (r : ℕ) → List �
 codesAt width samples zero = rowAt width samples zero
 codesAt width samples (suc r) = zipWith deltaCode (rowAt width samples r) (rowAt width samples (suc r))
 
--- the segments of the first `rows` rows
+-- the segments of the first `rows` rows (FORMAT 5.4)
 unfoldable pub planeSegments : (width rows : ℕ) (samples : List ℕ) → List Segment
 planeSegments width zero samples = []
 planeSegments width (suc rows) samples = planeSegments width rows samples ++ rowSegments (codesAt width samples rows)

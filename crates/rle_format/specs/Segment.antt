@@ -21,7 +21,7 @@ lastOr before (x ∷ xs) = lastOr x xs
 abbrev pub lastByteAfter : (before : ℕ) → Segment → ℕ
 lastByteAfter before s = lastOr before (s .raw)
 
--- its values
+-- its values (FORMAT 3.2)
 abbrev pub segmentValues : (before : ℕ) → Segment → List ℕ
 segmentValues before s = s .raw ++ replicate (s .run) (lastByteAfter before s)
 
@@ -58,7 +58,7 @@ readSegment (controlByte ∷ rest) =
     (refused-segment 7)
     (segment (record { raw = take (rawCount controlByte) rest; run = runLength controlByte })))
 
--- the control byte of a segment. It is right for those that are Encodable
+-- the control byte of an encodable segment (FORMAT 3.1)
 abbrev pub controlByte : Segment → ℕ
 controlByte s =
     choose (leb (s .run) 15)

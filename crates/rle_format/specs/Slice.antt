@@ -1,5 +1,4 @@
--- A slice after a call. The contract of every function that writes a slice equates it with one of these two, and so says of each byte
--- either what it is or that it is unchanged.
+-- A slice after a call (FORMAT 1.6): one of these two, or made of them, so that each byte is either given or unchanged.
 use Prim.Native.Nat.{ℕ, _+_}
 use mathlib.Core.List.{List, _++_}
 use lib.ListN.{length, take, drop}

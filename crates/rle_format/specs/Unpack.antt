@@ -12,11 +12,12 @@ use Rattle.rle_format.specs.Delta.{restoreRow}
 use Rattle.rle_format.specs.Segment.{segment, refused-segment, readSegment, segmentValues, segmentSize, valueCount, lastByteAfter}
 
 -- a full row, with its coded values and the number of bytes read; or a row that was refused, with the coded values of its earlier segments
+-- and the number of the refusal
 pub data RowRead : Type 0 where
   full : (codes : List ℕ) (read : ℕ) → RowRead
   stopped : (codes : List ℕ) (number : ℕ) → RowRead
 
--- a row that begins with vs, for which n bytes were read
+-- vs, read from n bytes, in front of a row
 abbrev pub prependRow : List ℕ → ℕ → RowRead → RowRead
 prependRow vs n (full codes read) = full (vs ++ codes) (n + read)
 prependRow vs n (stopped codes r) = stopped (vs ++ codes) r
@@ -53,6 +54,7 @@ unpackRows width (suc height) above body =
     ]
 
 -- unpacking a plane into a destination of `room` bytes: refusals 1, 2, 10, then 7, 8, 9 (FORMAT 8.2). The answer is the number of bytes read
+-- (FORMAT 4.4)
 unfoldable pub unpackPlane : (width height room : ℕ) (body : List ℕ) → Outcome
 unpackPlane width height room body =
     checkSides refuse width height

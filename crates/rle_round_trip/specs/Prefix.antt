@@ -11,7 +11,7 @@ use Rattle.rle_format.specs.Slice.{overwrite}
 use Rattle.rle_format.specs.Segment.{Segment, segmentSize, valueCount}
 use Rattle.rle_format.specs.Pack.{rowSegments, rowAt, codesAt, packing}
 
--- a plane that can be packed: sides from 1 to 8,192, and samples enough
+-- a plane that can be packed: sides from 1 to 8,192, and samples enough, each a byte
 pub record ValidPlane (width height : ℕ) (samples : List ℕ) : Type 0 where
   pub wide : (1 ≤ width) × (width ≤ 8192)
   pub high : (1 ≤ height) × (height ≤ 8192)

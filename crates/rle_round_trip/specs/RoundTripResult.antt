@@ -12,7 +12,7 @@ use Rattle.rle_round_trip.specs.declared.RoundTrip.{RoundTrip}
 use Rattle.rle_round_trip.specs.declared.RoundTrip.the-variants.{NotPacked, TooLong, Done}
 use Rattle.rle_round_trip.specs.Prefix.{PrefixResult}
 
--- the first `end` bytes of `packed` were unpacked, or there are fewer; `left` is dst afterwards
+-- unpacking the first `end` bytes of `packed`: TooLong if there are fewer, else as `unpackPlane`; `left` is dst afterwards
 abbrev pub UnpackResult : (width height : ℕ) (packed : List ℕ) (end : ℕ) (dst left : List ℕ) → RoundTrip → Type 0
 UnpackResult width height packed end dst left (NotPacked k) = ⊥
 UnpackResult width height packed end dst left TooLong = (length packed < end) × (left ≡ dst)

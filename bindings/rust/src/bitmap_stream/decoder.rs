@@ -52,7 +52,7 @@ pub type BitmapDecodeError = Refusal;
 /// | 8 | a control byte is 0 (RLE only) | the same |
 /// | 9 | a segment overruns its row (RLE only) | the same |
 ///
-/// The minimum size of a raw body is the sum of its planes. That of an RLE body is the sum over its planes of height × (width / 47
+/// The minimum size of a raw body is the number of its samples. That of an RLE body is the sum over its planes of height × (width / 47
 /// rounded up).
 pub fn decode(
     header: BitmapStreamHeader,

@@ -82,7 +82,7 @@ impl sealed::AlphaLayout for BgrAChannels {
     const ENCODE_BITMAP_ALPHA: ffi::EncodeBitmap = ffi::rdp6_encode_bitmap_alpha;
 }
 
-/// What was packed: the length of the body, and the header record to send before it.
+/// What was packed: the length of the body, and its header record.
 #[derive(Clone, Copy, Debug, PartialEq, Eq, Hash)]
 pub struct Encoded {
     /// The number of bytes written, the length of the body. IronRDP's count includes the header byte and is one more.
@@ -200,8 +200,8 @@ impl BitmapStreamEncoder {
         Encoded::of(answer, rle)
     }
 
-    /// The same with an alpha plane, which is the first: A, R, G, B. A sender of four planes sets the alpha flag (header byte `0x10` for RLE,
-    /// `0x00` for raw); whoever unpacks passes `use_alpha` as true.
+    /// The same with an alpha plane, which is the first: A, R, G, B. The returned `use_alpha` is false here too: a sender of four planes sets it
+    /// (header byte `0x10` for RLE, `0x00` for raw); whoever unpacks passes it as true.
     ///
     /// ```
     /// let (r, g, b, a) = ([1], [2], [3], [255]);
@@ -271,8 +271,8 @@ impl BitmapStreamEncoder {
         self.encode_pixels(F::ENCODE_BITMAP, src, dst, rle)
     }
 
-    /// The same with alpha: A, R, G, B. A sender of four planes sets the alpha flag (header byte `0x10` for RLE, `0x00` for raw); whoever
-    /// unpacks passes `use_alpha` as true.
+    /// The same with alpha: A, R, G, B. The returned `use_alpha` is false here too: a sender of four planes sets it (header byte `0x10` for RLE,
+    /// `0x00` for raw); whoever unpacks passes it as true.
     ///
     /// ```
     /// use rdp6::{BgrAChannels, BitmapStreamEncoder};
