@@ -14,7 +14,7 @@ use Rattle.rle_format.specs.Answer.{Answer, counted, refused, number, packedToA
 use Rattle.rle_format.specs.Slice.{overwrite, writeAt}
 use Rattle.rle_format.proofs.Slice.{writeAt-0}
 use Rattle.rle_format.proofs.Plane.{area-max}
-use Rattle.rle_format.proofs.Sides.{AllowedSides}
+use Rattle.rle_format.specs.Sides.{AllowedSides}
 use Rattle.rle_format.proofs.Outcome.{answer-cong, slice-cong, stop-writes-nothing}
 use Rattle.rle_format.proofs.WriteLoop.{Wrote}
 use Rattle.rle_format.proofs.WriteLoop.{wrote-from-0}

@@ -12,7 +12,7 @@ use Rattle.rle_format.specs.Slice.{overwrite}
 use Rattle.rle_format.specs.Segment.{Segment}
 use Rattle.rle_format.specs.Pack.{planeSegments, writeSegments, packPlane}
 use Rattle.rle_format.proofs.Outcome.{answer-cong}
-use Rattle.rle_format.proofs.Sides.{AllowedSides}
+use Rattle.rle_format.specs.Sides.{AllowedSides}
 use Rattle.rle_format.proofs.PackPlane.{pack-segments}
 use Rattle.rle_format.proofs.Slice.{suffix, replaceSuffix}
 use Rattle.rle_format.proofs.WriteLoop.{Wrote, WriteInvariant, write-same-rest, write-next, write-stop, write-last, part-refused, part-written, part-within}

@@ -4,7 +4,7 @@ ghost use Prim.Native.Nat.{_*_, _≤_};
 ghost use lib.ListN.{length};
 ghost use Rattle.rle_format.specs.Answer.{packedToAnswer};
 ghost use Rattle.rle_format.specs.Pack.{planeSegments};
-ghost use Rattle.rle_format.proofs.Sides.{AllowedSides};
+ghost use Rattle.rle_format.specs.Sides.{AllowedSides};
 ghost use Rattle.rle_format.specs.Written.{answerAt, sliceAt};
 ghost use Rattle.pixel_format.specs.declared.Channel.the-variants.{R, G, B};
 ghost use Rattle.pixel_format.specs.Channel.{samplesOf};

@@ -11,9 +11,9 @@ use borrow.Author.Tests.{lt-ltb, le-ltb, ltb-false}
 use Rattle.rle_format.specs.Answer.{counted, refused, refuse}
 use Rattle.rle_format.specs.Pack.{writeSegments}
 use Rattle.rle_format.specs.Choice.{choose}
-use Rattle.rle_format.specs.Sides.{checkSides}
+use Rattle.rle_format.specs.Sides.{checkSides, AllowedSides}
 use Rattle.rle_format.proofs.Answer.{refused-not-counted}
-use Rattle.rle_format.proofs.Sides.{AllowedSides, zero-width, zero-height, too-wide, too-high, sides-allowed, allowed-sides, checkSides-passes}
+use Rattle.rle_format.proofs.Sides.{zero-width, zero-height, too-wide, too-high, sides-allowed, allowed-sides, checkSides-passes}
 use Rattle.bitmap_format.specs.Checks.{check, firstRefusal}
 use Rattle.bitmap_format.specs.PackPicture.{pictureSegments, rawSamples, rawBody, writeAllOrNothing, anyShort, packChecks, checkPack, packBody, packPicture}
 use Rattle.bitmap_format.proofs.Checks.{check-passes, no-checks, sides-passed, check-passed}

@@ -6,7 +6,8 @@ use mathlib.Core.List.{List, [], _∷_}
 use lib.Dec.{ltb}
 use borrow.Author.Tests.{lt-ltb, le-ltb, ltb-false}
 use Rattle.rle_format.specs.Answer.{Answer, counted, refused}
-use Rattle.rle_format.proofs.Sides.{AllowedSides, allowed-sides}
+use Rattle.rle_format.specs.Sides.{AllowedSides}
+use Rattle.rle_format.proofs.Sides.{allowed-sides}
 use Rattle.bitmap_format.specs.declared.BitmapStreamHeader.{BitmapStreamHeader}
 use Rattle.bitmap_format.specs.Checks.{Check, check, firstRefusal}
 use Rattle.bitmap_format.specs.Sizes.{minBodySize, workSize, imageSize}

@@ -6,7 +6,7 @@ use native.Mathlib.Omega.{arith}
 use lib.Dec.{ltb, eqb}
 use borrow.Author.Tests.{lt-ltb, le-ltb, eq-eqb, ne-eqb, eqb-false, ltb-false}
 use Rattle.rle_format.specs.Choice.{choose}
-use Rattle.rle_format.specs.Sides.{checkSides}
+use Rattle.rle_format.specs.Sides.{checkSides, AllowedSides}
 
 module _ {ℓ} {A : Type ℓ} (refuse : ℕ → A) (w h : ℕ) (inside : A) where
   pub zero-width : w ≡ 0 → checkSides refuse w h inside ≡ refuse 1
@@ -35,13 +35,6 @@ module _ {ℓ} {A : Type ℓ} (refuse : ℕ → A) (w h : ℕ) (inside : A) wher
 -- the checks as a Bool
 abbrev pub areSidesAllowed : (w h : ℕ) → Bool
 areSidesAllowed w h = checkSides (λ (_ : ℕ). false) w h true
-
--- what sides that pass are
-pub record AllowedSides (w h : ℕ) : Type 0 where
-  pub some-width : w ≡ 0 → ⊥
-  pub some-height : h ≡ 0 → ⊥
-  pub wide : w ≤ 8192
-  pub high : h ≤ 8192
 
 pub allowed-sides : (w h : ℕ) → areSidesAllowed w h ≡ true → AllowedSides w h
 unfolding checkSides

@@ -3,7 +3,8 @@ use Prim.Native.Nat.{ℕ}
 use borrow.Author.Tests.{not-true, not-false}
 use native.Mathlib.Omega.{arith}
 use mathlib.Core.Path.{sym, _∙_}
-use Rattle.rle_format.proofs.Sides.{AllowedSides, allowed-sides, checkSides-passes, checkSides-refuses}
+use Rattle.rle_format.specs.Sides.{AllowedSides}
+use Rattle.rle_format.proofs.Sides.{allowed-sides, checkSides-passes, checkSides-refuses}
 use Rattle.bitmap_format.specs.Sizes.{imageSize}
 use Rattle.bitmap_format.proofs.Sizes.{product-fits}
 use borrow.Author.Needs.{needs}

@@ -3,7 +3,8 @@ use native.Mathlib.Omega.{arith}
 use mathlib.Core.Path.{sym, _∙_}
 use Prim.Native.Nat.{ℕ}
 use borrow.Author.Tests.{not-true, not-false}
-use Rattle.rle_format.proofs.Sides.{AllowedSides, allowed-sides, checkSides-passes, checkSides-refuses}
+use Rattle.rle_format.specs.Sides.{AllowedSides}
+use Rattle.rle_format.proofs.Sides.{allowed-sides, checkSides-passes, checkSides-refuses}
 use Rattle.bitmap_format.specs.Sizes.{minBodySize}
 use Rattle.bitmap_format.proofs.Sizes.{minBodySize-alpha, minBodySize-no-alpha}
 use borrow.Author.Needs.{needs}
