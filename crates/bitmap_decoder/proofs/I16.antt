@@ -98,7 +98,7 @@ module _ (level byte sum : ℕ) (is : sum ≡ (byte * 2 ^ (level - 1) % 256 + 12
       ∙ sym (chromaValue-shifted level byte)
 
   pub chroma-fits : SFits w16 (toZ w16 sum -ℤ pos 128)
-  chroma-fits = rw same (between-fits (chromaValue level byte) 255 128 (chromaValue-range level byte) (omega arith) (omega arith))
+  chroma-fits = rw same (between-fits (chromaValue level byte) 127 128 (chromaValue-range level byte) (omega arith) (omega arith))
 
   pub chroma-same : asI16 (toZ w16 sum -ℤ pos 128) ≡ chromaValue level byte
   chroma-same = toZ-ofZ chroma-fits ∙ same
@@ -107,20 +107,20 @@ module _ (level byte sum : ℕ) (is : sum ≡ (byte * 2 ^ (level - 1) % 256 + 12
 
 module _ (level y co cg : ℕ) (zo zg : ℤ) (hy : y < 256) (eo : zo ≡ chromaValue level co) (eg : zg ≡ chromaValue level cg) where
   asI16-co : asI16 zo ≡ chromaValue level co
-  asI16-co = toZ-ofZ (rw eo (between-fits (chromaValue level co) 255 128 (chromaValue-range level co) (omega arith) (omega arith))) ∙ eo
+  asI16-co = toZ-ofZ (rw eo (between-fits (chromaValue level co) 127 128 (chromaValue-range level co) (omega arith) (omega arith))) ∙ eo
 
   asI16-cg : asI16 zg ≡ chromaValue level cg
-  asI16-cg = toZ-ofZ (rw eg (between-fits (chromaValue level cg) 255 128 (chromaValue-range level cg) (omega arith) (omega arith))) ∙ eg
+  asI16-cg = toZ-ofZ (rw eg (between-fits (chromaValue level cg) 127 128 (chromaValue-range level cg) (omega arith) (omega arith))) ∙ eg
 
   -- t = Y − Cg
-  between-t : Between (pos y -ℤ chromaValue level cg) (255 + 128) (0 + 255)
-  between-t = between-minus (pos y) (chromaValue level cg) 255 0 255 128 (between-pos y 255 (omega arith)) (chromaValue-range level cg)
+  between-t : Between (pos y -ℤ chromaValue level cg) (255 + 128) (0 + 127)
+  between-t = between-minus (pos y) (chromaValue level cg) 255 0 127 128 (between-pos y 255 (omega arith)) (chromaValue-range level cg)
 
   t-is : toZ w16 y -ℤ asI16 zg ≡ pos y -ℤ chromaValue level cg
   t-is = λ i. byte-asI16 y hy i -ℤ asI16-cg i
 
   pub t-fits : SFits w16 (toZ w16 y -ℤ asI16 zg)
-  t-fits = rw t-is (between-fits (pos y -ℤ chromaValue level cg) 383 255 between-t (omega arith) (omega arith))
+  t-fits = rw t-is (between-fits (pos y -ℤ chromaValue level cg) 383 127 between-t (omega arith) (omega arith))
 
   asI16-t : asI16 (toZ w16 y -ℤ asI16 zg) ≡ pos y -ℤ chromaValue level cg
   asI16-t = toZ-ofZ t-fits ∙ t-is
@@ -131,8 +131,8 @@ module _ (level y co cg : ℕ) (zo zg : ℤ) (hy : y < 256) (eo : zo ≡ chromaV
   pub first-fits : SFits w16 (asI16 (toZ w16 y -ℤ asI16 zg) +ℤ asI16 zo)
   first-fits =
       rw first-is
-      (between-fits (pos y -ℤ chromaValue level cg +ℤ chromaValue level co) 638 383
-      (between-plus (pos y -ℤ chromaValue level cg) (chromaValue level co) 383 255 255 128 between-t (chromaValue-range level co)) (omega arith) (omega arith))
+      (between-fits (pos y -ℤ chromaValue level cg +ℤ chromaValue level co) 510 255
+      (between-plus (pos y -ℤ chromaValue level cg) (chromaValue level co) 383 127 127 128 between-t (chromaValue-range level co)) (omega arith) (omega arith))
 
   second-is : toZ w16 y +ℤ asI16 zg ≡ pos y +ℤ chromaValue level cg
   second-is = λ i. byte-asI16 y hy i +ℤ asI16-cg i
@@ -140,8 +140,8 @@ module _ (level y co cg : ℕ) (zo zg : ℤ) (hy : y < 256) (eo : zo ≡ chromaV
   pub second-fits : SFits w16 (toZ w16 y +ℤ asI16 zg)
   second-fits =
       rw second-is
-      (between-fits (pos y +ℤ chromaValue level cg) 510 128
-      (between-plus (pos y) (chromaValue level cg) 255 0 255 128 (between-pos y 255 (omega arith)) (chromaValue-range level cg)) (omega arith) (omega arith))
+      (between-fits (pos y +ℤ chromaValue level cg) 382 128
+      (between-plus (pos y) (chromaValue level cg) 255 0 127 128 (between-pos y 255 (omega arith)) (chromaValue-range level cg)) (omega arith) (omega arith))
 
   third-is : asI16 (toZ w16 y -ℤ asI16 zg) -ℤ asI16 zo ≡ pos y -ℤ chromaValue level cg -ℤ chromaValue level co
   third-is = λ i. asI16-t i -ℤ asI16-co i
@@ -149,8 +149,8 @@ module _ (level y co cg : ℕ) (zo zg : ℤ) (hy : y < 256) (eo : zo ≡ chromaV
   pub third-fits : SFits w16 (asI16 (toZ w16 y -ℤ asI16 zg) -ℤ asI16 zo)
   third-fits =
       rw third-is
-      (between-fits (pos y -ℤ chromaValue level cg -ℤ chromaValue level co) 511 510
-      (between-minus (pos y -ℤ chromaValue level cg) (chromaValue level co) 383 255 255 128 between-t (chromaValue-range level co)) (omega arith) (omega arith))
+      (between-fits (pos y -ℤ chromaValue level cg -ℤ chromaValue level co) 511 254
+      (between-minus (pos y -ℤ chromaValue level cg) (chromaValue level co) 383 127 127 128 between-t (chromaValue-range level co)) (omega arith) (omega arith))
 
   -- r, g and b are what clip_i16 said of the three
   module _ (r g b : ℕ)

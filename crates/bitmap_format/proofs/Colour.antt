@@ -9,7 +9,7 @@ use lib.IntN.{pos, negsuc, subℕ, _-ℤ_}
 use borrow.Author.Tests.{ltb-true, ltb-false}
 use Rattle.rle_format.specs.Choice.{choose}
 use Rattle.bitmap_format.specs.Colour.{signedByte, chromaValue}
-use Rattle.bitmap_format.proofs.Integers.{Between, pos-minus-pos, difference-negative, difference-not-negative}
+use Rattle.bitmap_format.proofs.Integers.{Between, pos-minus-pos, difference-negative, difference-not-negative, difference-reduced}
 
 -- 128 added modulo 256, and subtracted again
 signedByte-shifted : (b : ℕ) → b < 256 → signedByte b ≡ subℕ ((b + 128) % 256) 128
@@ -30,11 +30,12 @@ pub chromaValue-shifted : (level byte : ℕ) → chromaValue level byte ≡ sub�
 unfolding chromaValue
 chromaValue-shifted level byte = signedByte-shifted (byte * 2 ^ (level - 1) % 256) (mod-lt (byte * 2 ^ (level - 1)) (omega arith))
 
-pub chromaValue-range : (level byte : ℕ) → Between (chromaValue level byte) 255 128
+-- a chroma value is −128 to 127
+pub chromaValue-range : (level byte : ℕ) → Between (chromaValue level byte) 127 128
 chromaValue-range level byte = record {
-  more = (byte * 2 ^ (level - 1) % 256 + 128) % 256;
-  less = 128;
-  is = chromaValue-shifted level byte;
+  more = (byte * 2 ^ (level - 1) % 256 + 128) % 256 - 128;
+  less = 128 - (byte * 2 ^ (level - 1) % 256 + 128) % 256;
+  is = chromaValue-shifted level byte ∙ difference-reduced ((byte * 2 ^ (level - 1) % 256 + 128) % 256) 128;
   most = omega arith;
   least = omega arith;
 }
