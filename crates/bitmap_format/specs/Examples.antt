@@ -49,4 +49,4 @@ pictures =
     ∷ []
 
 abbrev pub examples : List Example
-examples = map plane planes.examples ++ pictures
+examples = map plane planes.workedExamples ++ pictures
