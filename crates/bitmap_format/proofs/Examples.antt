@@ -1,4 +1,4 @@
--- The examples of FORMAT 10 that are marked * hold: one proof for the list. Another for the pictures that are packed.
+-- The examples hold: one proof for planes and pictures that are unpacked, one for pictures that are packed.
 use mathlib.Core.Path.{_≡_, refl}
 use mathlib.Core.List.{map}
 use Rattle.rle_format.specs.Answer.{stop, prepend}

@@ -126,7 +126,7 @@ planeExamples =
     ∷ packs 64 1 (replicate 64 9) (0x1F ∷ 0x09 ∷ 0xF2 ∷ 0xEE ∷ []) (refused 12)
     ∷ []
 
--- Refusals in their order (FORMAT 8.2): each of these also meets the condition of a later one, except the last
+-- Refusals (FORMAT 8.2): where the conditions of several hold, the answer is the one that is checked first
 abbrev pub refusalExamples : List Example
 refusalExamples =
     unpacks 0 9000 [] [] (refused 1)
