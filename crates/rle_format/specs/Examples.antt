@@ -101,26 +101,30 @@ countFrom first zero = []
 countFrom first (suc n) = first ∷ countFrom (suc first) n
 
 -- Segments of a row. A run of 3 ends a segment, one of 2 does not; 16 raw bytes and a run are split into 15, and 1 with the run; 30 raw bytes
--- into 15 and 15; 31 equal values into 1 and 15, then 1 and 14; 113 into 1 and 15, 47, 47, and the last 3 as raw bytes. A
+-- into 15 and 15. Equal values are split into 1 and 15, then 47 while there are as many, then the rest: 2, 15, 31, 32, 46, and 47, 47, 3. A
 -- segment without its last raw byte is refused
 abbrev pub rowExamples : List Example
 rowExamples =
     packsAndUnpacks 9 1 (1 ∷ 2 ∷ 2 ∷ 2 ∷ 2 ∷ 3 ∷ 3 ∷ 3 ∷ 4 ∷ []) (0x23 ∷ 1 ∷ 2 ∷ 0x40 ∷ 3 ∷ 3 ∷ 3 ∷ 4 ∷ [])
     ∷ packsAndUnpacks 20 1 (countFrom 1 16 ++ replicate 4 16) (0xF0 ∷ countFrom 1 15 ++ 0x14 ∷ 16 ∷ [])
     ∷ packsAndUnpacks 30 1 (countFrom 1 30) (0xF0 ∷ countFrom 1 15 ++ 0xF0 ∷ countFrom 16 15)
+    ∷ packsAndUnpacks 18 1 (replicate 18 9) (0x1F ∷ 9 ∷ 0x20 ∷ 9 ∷ 9 ∷ [])
     ∷ packsAndUnpacks 31 1 (replicate 31 9) (0x1F ∷ 9 ∷ 0x1E ∷ 9 ∷ [])
+    ∷ packsAndUnpacks 47 1 (replicate 47 9) (0x1F ∷ 9 ∷ 0xF1 ∷ [])
+    ∷ packsAndUnpacks 48 1 (replicate 48 9) (0x1F ∷ 9 ∷ 0x02 ∷ [])
+    ∷ packsAndUnpacks 62 1 (replicate 62 9) (0x1F ∷ 9 ∷ 0xE2 ∷ [])
     ∷ packsAndUnpacks 113 1 (replicate 113 9) (0x1F ∷ 9 ∷ 0xF2 ∷ 0xF2 ∷ 0x30 ∷ 9 ∷ 9 ∷ 9 ∷ [])
     ∷ unpacks 3 1 (0x30 ∷ 1 ∷ 2 ∷ []) (replicate 3 0xEE) (refused 7)
     ∷ []
 
 -- Rows of a plane. The differences of the first are −1, 1, 100 (44 is 200 + 100 − 256), then 3, −1, 127. The codes of the second, whose row 1
 -- opens with a run of 0, are 0, 0, 0, 2, then 2, 1, 255, 0; the byte behind the 13 that it needs is not read. A row refused with 9 or 8 has the
--- values of its first segment
+-- coded values of its earlier segments, two and one
 abbrev pub planeExamples : List Example
 planeExamples =
     packsAndUnpacks 3 3 (10 ∷ 20 ∷ 200 ∷ 9 ∷ 21 ∷ 44 ∷ 12 ∷ 20 ∷ 171 ∷ []) (0x30 ∷ 10 ∷ 20 ∷ 200 ∷ 0x30 ∷ 1 ∷ 2 ∷ 200 ∷ 0x30 ∷ 6 ∷ 1 ∷ 254 ∷ [])
     ∷ unpacks 4 3 (0x40 ∷ 5 ∷ 6 ∷ 7 ∷ 8 ∷ 0x03 ∷ 0x10 ∷ 2 ∷ 0x40 ∷ 2 ∷ 1 ∷ 255 ∷ 0 ∷ 0x55 ∷ []) (5 ∷ 6 ∷ 7 ∷ 8 ∷ 5 ∷ 6 ∷ 7 ∷ 9 ∷ 6 ∷ 5 ∷ 135 ∷ 9 ∷ 0xEE ∷ []) (counted 13)
-    ∷ unpacks 3 2 (0x30 ∷ 1 ∷ 2 ∷ 3 ∷ 0x10 ∷ 2 ∷ 0x03 ∷ []) (1 ∷ 2 ∷ 3 ∷ 2 ∷ 0xEE ∷ 0xEE ∷ []) (refused 9)
+    ∷ unpacks 3 2 (0x30 ∷ 1 ∷ 2 ∷ 3 ∷ 0x10 ∷ 2 ∷ 0x10 ∷ 4 ∷ 0x03 ∷ []) (1 ∷ 2 ∷ 3 ∷ 2 ∷ 4 ∷ 0xEE ∷ []) (refused 9)
     ∷ unpacks 3 2 (0x30 ∷ 1 ∷ 2 ∷ 3 ∷ 0x10 ∷ 2 ∷ 0x00 ∷ []) (1 ∷ 2 ∷ 3 ∷ 2 ∷ 0xEE ∷ 0xEE ∷ []) (refused 8)
     ∷ packs 1 1 (5 ∷ 6 ∷ []) (0x10 ∷ 5 ∷ 0xEE ∷ []) (counted 2)
     ∷ packs 64 1 (replicate 64 9) (0x1F ∷ 0x09 ∷ 0xF2 ∷ 0xEE ∷ []) (refused 12)
@@ -137,6 +141,7 @@ refusalExamples =
     ∷ unpacks 3 1 [] (0xEE ∷ 0xEE ∷ []) (refused 10)
     ∷ packs 0 9000 [] [] (refused 1)
     ∷ packs 8193 1 [] [] (refused 2)
+    ∷ packs 1 8193 [] [] (refused 2)
     ∷ packs 8192 8192 [] [] (refused 11)
     ∷ packs 3 1 (7 ∷ 7 ∷ []) [] (refused 11)
     ∷ packs 3 1 (7 ∷ 7 ∷ 7 ∷ []) (0xEE ∷ 0xEE ∷ 0xEE ∷ []) (refused 12)
