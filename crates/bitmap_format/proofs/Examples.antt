@@ -1,4 +1,4 @@
--- The examples of FORMAT 10 that are marked * hold: one proof for the list. Another for the pictures that are packed.
+-- The examples hold: one proof for planes and pictures that are unpacked, one for pictures that are packed.
 use mathlib.Core.Path.{_≡_, refl}
 use mathlib.Core.List.{map}
 use Rattle.rle_format.specs.Answer.{stop, prepend}
@@ -7,7 +7,7 @@ use Rattle.rle_format.specs.Slice.{overwrite, writeAt}
 use Rattle.rle_format.specs.Delta.{difference, deltaCode, undoDelta, differenceFromCode}
 use Rattle.rle_format.specs.Segment.{readSegment, rawCount, runLength}
 use Rattle.rle_format.specs.Unpack.{unpackPlane, unpackRows, readRow}
-use Rattle.rle_format.specs.Pack.{packPlane, writeSegments, planeSegments, codesAt, rowAt, rowSegments, scanSegments, splitSegments, longRun}
+use Rattle.rle_format.specs.Pack.{packPlane, writeSegments, packing, planeSegments, codesAt, rowAt, rowSegments, scanSegments, splitSegments, longRun}
 use Rattle.bitmap_format.specs.Checks.{firstRefusal}
 use Rattle.bitmap_format.specs.Colour.{signedByte, chromaValue, clip, ycocg, aycocgColour}
 use Rattle.bitmap_format.specs.Planes.{chromaSide, firstPlane, secondPlane, thirdPlane, colourPlanes, alphaPlanes, planesOf}
@@ -21,7 +21,7 @@ use Rattle.bitmap_format.specs.Examples.{examples, computed, expected}
 use Rattle.bitmap_format.specs.PackExamples as packed
 
 pub examples-hold : map computed examples ≡ map expected examples
-unfolding packPlane writeSegments planeSegments codesAt rowAt rowSegments scanSegments splitSegments longRun deltaCode difference unpackPlane unpackRows readRow readSegment rawCount runLength undoDelta differenceFromCode checkSides stop prepend overwrite writeAt firstRefusal signedByte chromaValue clip ycocg aycocgColour chromaSide firstPlane secondPlane thirdPlane colourPlanes alphaPlanes planesOf sumOver minBodySize workSize rowSize imageSize sample chromaIndex colourAt concatUpTo imageRow writeRows addRead unpackPlanes isLossLevelInvalid checkPicture writeImage unpackRaw imageFromWork unpackRle unpackPicture
+unfolding packPlane writeSegments packing planeSegments codesAt rowAt rowSegments scanSegments splitSegments longRun deltaCode difference unpackPlane unpackRows readRow readSegment rawCount runLength undoDelta differenceFromCode checkSides stop prepend overwrite writeAt firstRefusal signedByte chromaValue clip ycocg aycocgColour chromaSide firstPlane secondPlane thirdPlane colourPlanes alphaPlanes planesOf sumOver minBodySize workSize rowSize imageSize sample chromaIndex colourAt concatUpTo imageRow writeRows addRead unpackPlanes isLossLevelInvalid checkPicture writeImage unpackRaw imageFromWork unpackRle unpackPicture
 examples-hold = refl
 
 pub pack-examples-hold : map packed.computed packed.examples ≡ map packed.expected packed.examples

@@ -1,3 +1,4 @@
+pub mod Examples
 pub mod Covered
 pub mod Row
 pub mod Samples

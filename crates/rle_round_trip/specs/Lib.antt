@@ -1,3 +1,4 @@
 pub mod Prefix
 pub mod Claim
 pub mod RoundTripResult
+pub mod Examples

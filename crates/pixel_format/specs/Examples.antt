@@ -1,0 +1,41 @@
+-- Examples of channels, worked out by hand: one constant list, what the definitions compute for each, and what is expected.
+-- proofs/Examples.antt has the one proof.
+use Prim.Native.Nat.{ℕ}
+use mathlib.Core.List.{List, [], _∷_}
+use Rattle.pixel_format.specs.declared.Channel.{Channel}
+use Rattle.pixel_format.specs.declared.Channel.the-variants.{R, G, B, A}
+use Rattle.pixel_format.specs.declared.Layout.{Layout}
+use Rattle.pixel_format.specs.declared.Layout.the-variants.{Planar, BgrA}
+use Rattle.pixel_format.specs.Channel.{samplesOf}
+
+-- a slice with its layout, and the samples of a channel in it
+pub record Example : Type 0 where
+  pub layout : Layout
+  pub channel : Channel
+  pub slice : List ℕ
+  pub samples : List ℕ
+
+abbrev pub example : (layout : Layout) (channel : Channel) (slice samples : List ℕ) → Example
+example layout channel slice samples = record { layout = layout; channel = channel; slice = slice; samples = samples }
+
+-- what the definitions compute
+abbrev pub computed : Example → List ℕ
+computed e = samplesOf (e .layout) (e .channel) (e .slice)
+
+-- what is expected
+abbrev pub expected : Example → List ℕ
+expected e = e .samples
+
+-- two pixels of B, G, R, A, and three bytes of a third
+abbrev pub pixels : List ℕ
+pixels = 1 ∷ 2 ∷ 3 ∷ 4 ∷ 5 ∷ 6 ∷ 7 ∷ 8 ∷ 9 ∷ 10 ∷ 11 ∷ []
+
+-- each channel of the pixels; then the same bytes as one channel
+abbrev pub examples : List Example
+examples =
+    example BgrA B pixels (1 ∷ 5 ∷ [])
+    ∷ example BgrA G pixels (2 ∷ 6 ∷ [])
+    ∷ example BgrA R pixels (3 ∷ 7 ∷ [])
+    ∷ example BgrA A pixels (4 ∷ 8 ∷ [])
+    ∷ example Planar R pixels (1 ∷ 2 ∷ 3 ∷ 4 ∷ 5 ∷ 6 ∷ 7 ∷ 8 ∷ 9 ∷ 10 ∷ 11 ∷ [])
+    ∷ []
