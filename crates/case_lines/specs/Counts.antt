@@ -3,8 +3,8 @@
 use Prim.Native.Nat.{ℕ}
 use Rattle.case_lines.specs.declared.read.Number.{Number}
 use Rattle.case_lines.specs.declared.read.Number.the-variants as number
-use Rattle.case_lines.specs.declared.read.Signed.{Signed}
-use Rattle.case_lines.specs.declared.read.Signed.the-variants as signed
+use Rattle.case_lines.specs.declared.read.ParsedAnswer.{ParsedAnswer}
+use Rattle.case_lines.specs.declared.read.ParsedAnswer.the-variants as answer
 use Rattle.case_lines.specs.declared.read.Bytes.{Bytes}
 use Rattle.case_lines.specs.declared.read.Bytes.the-variants as bytes
 use Rattle.case_lines.specs.declared.read.Expanded.{Expanded}
@@ -22,9 +22,9 @@ abbrev pub nextOfNumber : Number → ℕ
 nextOfNumber (number.Value value next) = next
 nextOfNumber number.Malformed = 0
 
-abbrev pub nextOfSigned : Signed → ℕ
-nextOfSigned (signed.Value minus value next) = next
-nextOfSigned signed.Malformed = 0
+abbrev pub nextOfAnswer : ParsedAnswer → ℕ
+nextOfAnswer (answer.Value value next) = next
+nextOfAnswer answer.Malformed = 0
 
 abbrev pub nextOfBytes : Bytes → ℕ
 nextOfBytes (bytes.Value count next) = next

@@ -1,12 +1,13 @@
 // Reads the fields of one line of a data file. The line is given with its newline. Each field ends with a space or with that
 // newline. A function that reads a field gets the index `start` of its first byte. It returns the field's value and, as `next`,
 // the index after the byte that ends the field. A field whose index is outside the line is malformed.
+use crate::report::Answer;
 ghost use mathlib.Core.Path.{_≡_};
 ghost use mathlib.Core.Bool.{_&&_};
 ghost use lib.Dec.{ltb};
 ghost use Prim.Native.Nat.{_≤_, _<_};
 ghost use lib.ListN.{length, replicate};
-ghost use Rattle.case_lines.specs.Counts.{countOf, expandedCount, nextOfNumber, nextOfSigned, nextOfBytes};
+ghost use Rattle.case_lines.specs.Counts.{countOf, expandedCount, nextOfNumber, nextOfAnswer, nextOfBytes};
 
 // The largest `count` of `next_numbers`.
 pub const MAX_NUMBERS: usize = 9;
@@ -17,13 +18,9 @@ pub enum Number {
     Malformed,
 }
 
-// A decimal number that may have a minus sign.
-pub enum Signed {
-    Value {
-        minus: bool,
-        value: usize,
-        next: usize,
-    },
+// The expected answer of a case.
+pub enum ParsedAnswer {
+    Value { answer: Answer, next: usize },
     Malformed,
 }
 
@@ -109,19 +106,26 @@ pub fn next_numbers(
     index
 }
 
-// Reads a decimal number and its sign.
-pub fn next_signed(line: &[u8], start: usize) -> Signed
-    ensures { λ r. ⌜ nextOfSigned r ≤ length (now (line .entry)) ⌝ }
+// Reads an answer: a decimal number, with a minus sign if it is that of a refusal.
+pub fn next_answer(line: &[u8], start: usize) -> ParsedAnswer
+    ensures { λ r. ⌜ nextOfAnswer r ≤ length (now (line .entry)) ⌝ }
 {
     if line.len() <= start {
-        return Signed::Malformed;
+        return ParsedAnswer::Malformed;
     }
-    let minus = line[start] == b'-';
-    let digits = if minus { start + 1 } else { start };
-    let Number::Value { value, next } = next_number(line, digits) else {
-        return Signed::Malformed;
+    let refused = line[start] == b'-';
+    let digits = if refused { start + 1 } else { start };
+    let Number::Value {
+        value: number,
+        next,
+    } = next_number(line, digits)
+    else {
+        return ParsedAnswer::Malformed;
     };
-    Signed::Value { minus, value, next }
+    ParsedAnswer::Value {
+        answer: Answer { refused, number },
+        next,
+    }
 }
 
 // Reads a field of bytes into the first bytes of `into`.

@@ -14,7 +14,7 @@ use case_lines::guarded::MAX_SLICE;
 use case_lines::read;
 use case_lines::read::Bytes;
 use case_lines::read::MAX_NUMBERS;
-use case_lines::read::Signed;
+use case_lines::read::ParsedAnswer;
 use case_lines::report;
 use case_lines::report::Answer;
 use case_lines::report::LineResult;
@@ -151,7 +151,7 @@ fn parse_case(source: SourceKind, line: &[u8]) -> ParsedCase {
     let mut numbers = [0usize; MAX_NUMBERS];
     let mut sent = [0usize; MAX_NUMBERS];
     let start = read::next_numbers(line, 0, COUNT_BEFORE_ANSWER, &mut numbers);
-    let Signed::Value { minus, value, next } = read::next_signed(line, start) else {
+    let ParsedAnswer::Value { answer, next } = read::next_answer(line, start) else {
         return ParsedCase::Malformed;
     };
     let end = read::next_numbers(line, next, COUNT_AFTER_ANSWER, &mut sent);
@@ -173,10 +173,7 @@ fn parse_case(source: SourceKind, line: &[u8]) -> ParsedCase {
         rle: numbers[RLE] == 1,
         alpha: numbers[ALPHA] == 1,
         room: numbers[ROOM],
-        answer: Answer {
-            refused: minus,
-            number: value,
-        },
+        answer,
         header: ExpectedHeader {
             rle: sent[SENT_RLE] == 1,
             alpha: sent[SENT_ALPHA] == 1,

@@ -14,7 +14,7 @@ use case_lines::guarded::MAX_SLICE;
 use case_lines::read;
 use case_lines::read::Bytes;
 use case_lines::read::MAX_NUMBERS;
-use case_lines::read::Signed;
+use case_lines::read::ParsedAnswer;
 use case_lines::report;
 use case_lines::report::Answer;
 use case_lines::report::LineResult;
@@ -119,7 +119,7 @@ fn replay_with_buffers(
 fn parse_case(line: &[u8]) -> ParsedCase {
     let mut numbers = [0usize; MAX_NUMBERS];
     let start = read::next_numbers(line, 0, MAX_NUMBERS, &mut numbers);
-    let Signed::Value { minus, value, next } = read::next_signed(line, start) else {
+    let ParsedAnswer::Value { answer, next } = read::next_answer(line, start) else {
         return ParsedCase::Malformed;
     };
     let ParsedHeader::Value(header) = header_of(numbers) else {
@@ -131,10 +131,7 @@ fn parse_case(line: &[u8]) -> ParsedCase {
         height: numbers[HEIGHT],
         work_room: numbers[WORK_ROOM],
         image_room: numbers[IMAGE_ROOM],
-        answer: Answer {
-            refused: minus,
-            number: value,
-        },
+        answer,
         next,
     })
 }

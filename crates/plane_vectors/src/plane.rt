@@ -15,7 +15,7 @@ use case_lines::guarded::MAX_SLICE;
 use case_lines::read;
 use case_lines::read::Bytes;
 use case_lines::read::Number;
-use case_lines::read::Signed;
+use case_lines::read::ParsedAnswer;
 use case_lines::report;
 use case_lines::report::Answer;
 use case_lines::report::LineResult;
@@ -113,12 +113,8 @@ fn parse_case(operation: Operation, line: &[u8]) -> ParsedCase {
     let Number::Value { value: room, next } = read::next_number(line, next) else {
         return ParsedCase::Malformed;
     };
-    let Signed::Value { minus, value, next } = read::next_signed(line, next) else {
+    let ParsedAnswer::Value { answer, next } = read::next_answer(line, next) else {
         return ParsedCase::Malformed;
-    };
-    let answer = Answer {
-        refused: minus,
-        number: value,
     };
     ParsedCase::Value(Case {
         operation,
