@@ -1,4 +1,4 @@
-//! The stored cases of crates/vectors/data, called through the functions of this crate. Most of the expected answers are IronRDP's, the rest
+//! The stored cases of crates/*_vectors/data, called through the functions of this crate. Most of the expected answers are IronRDP's, the rest
 //! is written from docs/FORMAT.md. docs/TESTS.md describes the cases and the form of a line.
 
 mod support;
@@ -12,9 +12,9 @@ use rdp6::{
 };
 use support::{argb, aycocg, hex, Guarded};
 
-/// The cases of a file, as fields.
-fn for_each_case(file: &str, mut check: impl FnMut(&[&str])) {
-    let path = Path::new(env!("CARGO_MANIFEST_DIR")).join("../../crates/vectors/data").join(file);
+/// The cases of a file, as fields. The file is one of those that a program of the repository replays.
+fn for_each_case(program: &str, file: &str, mut check: impl FnMut(&[&str])) {
+    let path = Path::new(env!("CARGO_MANIFEST_DIR")).join("../../crates").join(program).join("data").join(file);
     let text = fs::read_to_string(&path).unwrap_or_else(|why| {
         panic!("{} cannot be read: {why}. This test needs the complete repository.", path.display())
     });
@@ -56,21 +56,21 @@ fn check_plane(function: Plane, case: &[&str]) {
 #[test]
 fn planes_unpacked() {
     for file in ["plane-unpack.txt", "examples.txt", "refusals.txt"] {
-        for_each_case(file, |case| check_plane(decompress_8bpp_plane, case));
+        for_each_case("plane_vectors", file, |case| check_plane(decompress_8bpp_plane, case));
     }
 }
 
 #[test]
 fn planes_packed() {
     for file in ["plane-pack.txt", "examples-pack.txt", "refusals-pack.txt"] {
-        for_each_case(file, |case| check_plane(compress_8bpp_plane, case));
+        for_each_case("plane_vectors", file, |case| check_plane(compress_8bpp_plane, case));
     }
 }
 
 /// WIDTH HEIGHT END ROOM ANSWER SAMPLES AFTER: the samples are packed into a slice of 20,000 bytes `C7`, and its first END bytes are unpacked.
 #[test]
 fn prefixes_unpacked() {
-    for_each_case("prefixes.txt", |case| {
+    for_each_case("plane_vectors", "prefixes.txt", |case| {
         if case[4] == "-0" {
             return; // an END over 20,000: there is no such slice
         }
@@ -110,7 +110,7 @@ fn check_picture(decoder: &mut BitmapStreamDecoder, case: &[&str]) {
 fn pictures_unpacked() {
     let mut decoder = BitmapStreamDecoder::default();
     for file in ["picture-unpack.txt", "examples-picture.txt", "refusals-picture.txt"] {
-        for_each_case(file, |case| check_picture(&mut decoder, case));
+        for_each_case("picture_vectors", file, |case| check_picture(&mut decoder, case));
     }
 }
 
@@ -124,7 +124,7 @@ fn encoded(fields: &[&str]) -> Result<Encoded, Refusal> {
 #[test]
 fn channels_packed() {
     for file in ["channels-pack.txt", "examples-channels.txt", "refusals-channels.txt"] {
-        for_each_case(file, |case| {
+        for_each_case("encode_vectors", file, |case| {
             let mut encoder = BitmapStreamEncoder::new(number(case[0]), number(case[1]));
             let (rle, mut dst) = (flag(case[2]), Guarded::filled(0xEE, number(case[4])));
             let (r, g, b) = (hex(case[9]), hex(case[10]), hex(case[11]));
@@ -143,7 +143,7 @@ fn channels_packed() {
 #[test]
 fn pixels_packed() {
     for file in ["bitmap-pack.txt", "examples-bitmap.txt", "refusals-bitmap.txt"] {
-        for_each_case(file, |case| {
+        for_each_case("encode_vectors", file, |case| {
             let mut encoder = BitmapStreamEncoder::new(number(case[0]), number(case[1]));
             let (rle, mut dst) = (flag(case[2]), Guarded::filled(0xEE, number(case[4])));
             let pixels = hex(case[9]);

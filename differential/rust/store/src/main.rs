@@ -50,7 +50,8 @@ impl Lines {
 
     fn write(&self, file: &Path) -> Result<(), ExitCode> {
         let text = self.lines.concat();
-        std::fs::write(file, &text).map_err(|why| {
+        let folder = file.parent().expect("a folder");
+        std::fs::create_dir_all(folder).and_then(|()| std::fs::write(file, &text)).map_err(|why| {
             eprintln!("{}: {why}", file.display());
             ExitCode::FAILURE
         })?;
@@ -89,20 +90,20 @@ impl Stored {
     }
 }
 
-/// A file's name, and what makes its lines.
+/// A file, in the folder of the program that replays it, and what makes its lines.
 type Sample = (&'static str, fn() -> Lines);
 
 const SAMPLES: [Sample; 5] = [
-    ("plane-unpack.txt", || Stored::lines_of(Operation::Unpack, sample::keep_all)),
-    ("plane-pack.txt", || Stored::lines_of(Operation::Pack, pack_sample::keep_all)),
-    ("picture-unpack.txt", pictures::lines),
-    ("channels-pack.txt", || encodings::lines(Entry::Channels)),
-    ("bitmap-pack.txt", || encodings::lines(Entry::Bitmap)),
+    ("plane_vectors/data/plane-unpack.txt", || Stored::lines_of(Operation::Unpack, sample::keep_all)),
+    ("plane_vectors/data/plane-pack.txt", || Stored::lines_of(Operation::Pack, pack_sample::keep_all)),
+    ("picture_vectors/data/picture-unpack.txt", pictures::lines),
+    ("encode_vectors/data/channels-pack.txt", || encodings::lines(Entry::Channels)),
+    ("encode_vectors/data/bitmap-pack.txt", || encodings::lines(Entry::Bitmap)),
 ];
 
 const USAGE: &str = "\
-usage: store FOLDER   writes IronRDP's answers to plane-unpack.txt, plane-pack.txt, picture-unpack.txt, channels-pack.txt and
-                      bitmap-pack.txt in FOLDER
+usage: store FOLDER   writes IronRDP's answers to files in plane_vectors/data, picture_vectors/data and encode_vectors/data of FOLDER,
+                      which is crates or a folder like it
        store --help   prints this";
 
 fn main() -> ExitCode {

@@ -1,0 +1,350 @@
+// Replays one case of packing a picture, from its channels or from its pixels. The case is one line:
+//     WIDTH HEIGHT RLE ALPHA ROOM ANSWER SENTRLE SENTALPHA SENTDEFINITION R G B A AFTER
+//     WIDTH HEIGHT RLE ALPHA ROOM ANSWER SENTRLE SENTALPHA SENTDEFINITION PIXELS AFTER
+// RLE is 0 or 1. ALPHA is 1 for the function that packs alpha; if it is 0, A is a hyphen. ROOM is the length of the destination.
+// ANSWER is the number of bytes written, or the negative of a refusal's number. AFTER has all bytes of the destination after the
+// call. SENTRLE, SENTALPHA and SENTDEFINITION are the returned header record (FORMAT 7.5), 0 or 1 each; a SENTDEFINITION of 0 is
+// ARGB. A refusal returns no header record, and they are ignored. Bytes are written as in a plane's line.
+use bitmap_format::BitmapStreamHeader;
+use bitmap_format::ColorPlaneDefinition;
+use bitmap_format::Encoded;
+use case_lines::guarded;
+use case_lines::guarded::GUARD_SIZE;
+use case_lines::guarded::MAX_SLICE;
+use case_lines::read;
+use case_lines::read::Bytes;
+use case_lines::read::MAX_NUMBERS;
+use case_lines::read::ParsedAnswer;
+use case_lines::report;
+use case_lines::report::Answer;
+use case_lines::report::LineResult;
+ghost use Prim.Native.Nat.{_+_, _≤_};
+ghost use lib.ListN.{length};
+
+// What a case packs. It is the same for all cases of a file.
+pub(crate) enum SourceKind {
+    Channels,
+    Pixels,
+}
+
+// The indexes of the numbers before the answer, and how many there are.
+const WIDTH: usize = 0;
+
+const HEIGHT: usize = 1;
+
+const RLE: usize = 2;
+
+const ALPHA: usize = 3;
+
+const ROOM: usize = 4;
+
+const COUNT_BEFORE_ANSWER: usize = 5;
+
+// The same for the numbers after it.
+const SENT_RLE: usize = 0;
+
+const SENT_ALPHA: usize = 1;
+
+const SENT_DEFINITION: usize = 2;
+
+const COUNT_AFTER_ANSWER: usize = 3;
+
+// The header record that a call should return.
+struct ExpectedHeader {
+    rle: bool,
+    alpha: bool,
+    argb: bool,
+}
+
+// The numbers of a case, and the index of its first source field.
+struct Case {
+    source: SourceKind,
+    width: usize,
+    height: usize,
+    rle: bool,
+    alpha: bool,
+    room: usize,
+    answer: Answer,
+    header: ExpectedHeader,
+    next: usize,
+}
+
+enum ParsedCase {
+    Value(Case),
+    Malformed,
+}
+
+// How many bytes a field has, repeats included, and the index after it.
+struct Field {
+    count: usize,
+    next: usize,
+}
+
+// The number of bytes of each source field, and the index after the last one. A line of pixels has its number in `r`.
+struct SourceSizes {
+    r: usize,
+    g: usize,
+    b: usize,
+    a: usize,
+    next: usize,
+}
+
+// Replays the case of a line.
+pub(crate) fn replay(source: SourceKind, line: &[u8]) -> LineResult {
+    let ParsedCase::Value(case) = parse_case(source, line) else {
+        return LineResult::Malformed;
+    };
+    let mut r = guarded::new_array();
+    let mut g = guarded::new_array();
+    let mut b = guarded::new_array();
+    let mut a = guarded::new_array();
+    let mut dst = guarded::new_array();
+    let mut after = guarded::new_array();
+    replay_with_buffers(
+        case,
+        line,
+        &mut r,
+        &mut g,
+        &mut b,
+        &mut a,
+        &mut dst,
+        &mut after[GUARD_SIZE..GUARD_SIZE + MAX_SLICE],
+    )
+}
+
+// The same with the case's numbers, and with buffers for its bytes.
+fn replay_with_buffers(
+    case: Case,
+    line: &[u8],
+    r: &mut [u8],
+    g: &mut [u8],
+    b: &mut [u8],
+    a: &mut [u8],
+    dst: &mut [u8],
+    after: &mut [u8],
+) -> LineResult
+    requires { ⌜ length (now after) + 32 ≤ length (now dst) ⌝ }
+{
+    let sources = read_sources(case, line, r, g, b, a);
+    let last = next_field(line, sources.next, after);
+    if !is_complete(case, sources.a, last, line) {
+        return LineResult::Malformed;
+    }
+    let r_end = sources.r;
+    let g_end = sources.g;
+    let b_end = sources.b;
+    let a_end = sources.a;
+    let room = last.count;
+    run(
+        case,
+        &r[0..r_end],
+        &g[0..g_end],
+        &b[0..b_end],
+        &a[0..a_end],
+        dst,
+        &after[0..room],
+    )
+}
+
+// Reads the numbers of a case.
+fn parse_case(source: SourceKind, line: &[u8]) -> ParsedCase {
+    let mut numbers = [0usize; MAX_NUMBERS];
+    let mut sent = [0usize; MAX_NUMBERS];
+    let start = read::next_numbers(line, 0, COUNT_BEFORE_ANSWER, &mut numbers);
+    let ParsedAnswer::Value { answer, next } = read::next_answer(line, start) else {
+        return ParsedCase::Malformed;
+    };
+    let end = read::next_numbers(line, next, COUNT_AFTER_ANSWER, &mut sent);
+    if !read::are_flags(
+        numbers[RLE],
+        numbers[ALPHA],
+        sent[SENT_RLE],
+        sent[SENT_ALPHA],
+    ) {
+        return ParsedCase::Malformed;
+    }
+    if 1 < sent[SENT_DEFINITION] {
+        return ParsedCase::Malformed;
+    }
+    ParsedCase::Value(Case {
+        source,
+        width: numbers[WIDTH],
+        height: numbers[HEIGHT],
+        rle: numbers[RLE] == 1,
+        alpha: numbers[ALPHA] == 1,
+        room: numbers[ROOM],
+        answer,
+        header: ExpectedHeader {
+            rle: sent[SENT_RLE] == 1,
+            alpha: sent[SENT_ALPHA] == 1,
+            argb: sent[SENT_DEFINITION] == 0,
+        },
+        next: end,
+    })
+}
+
+// Reads the source fields.
+fn read_sources(
+    case: Case,
+    line: &[u8],
+    r: &mut [u8],
+    g: &mut [u8],
+    b: &mut [u8],
+    a: &mut [u8],
+) -> SourceSizes
+    ensures { λ s. ⌜ (s .r ≤ length (now (r .entry))) × (s .g ≤ length (now (g .entry))) × (s .b ≤ length (now (b .entry))) × (s .a ≤ length (now (a .entry))) ⌝ }
+{
+    let red = next_field(line, case.next, r);
+    let green = next_channel(case, line, red.next, g);
+    let blue = next_channel(case, line, green.next, b);
+    let alpha = next_channel(case, line, blue.next, a);
+    SourceSizes {
+        r: red.count,
+        g: green.count,
+        b: blue.count,
+        a: alpha.count,
+        next: alpha.next,
+    }
+}
+
+// Reads a field of bytes into the first bytes of `into`. If it is malformed, `next` is outside every line, so that the line is not
+// complete.
+fn next_field(line: &[u8], start: usize, into: &mut [u8]) -> Field
+    ensures { λ r. ⌜ r .count ≤ length (now (into .entry)) ⌝ }
+{
+    let Bytes::Value { count, next } = read::next_bytes(line, start, into) else {
+        return Field {
+            count: 0,
+            next: usize::MAX,
+        };
+    };
+    Field { count, next }
+}
+
+// The same for a channel after the first. A line of pixels has none, so the next field begins at the same index.
+fn next_channel(case: Case, line: &[u8], start: usize, into: &mut [u8]) -> Field
+    ensures { λ r. ⌜ r .count ≤ length (now (into .entry)) ⌝ }
+{
+    let source = case.source;
+    match source {
+        SourceKind::Channels => next_field(line, start, into),
+        SourceKind::Pixels => Field {
+            count: 0,
+            next: start,
+        },
+    }
+}
+
+// Whether the line ends after AFTER, AFTER has as many bytes as the destination, and A has bytes only if it is packed.
+fn is_complete(case: Case, a: usize, last: Field, line: &[u8]) -> bool {
+    last.next == line.len() && last.count == case.room && (case.alpha || a == 0)
+}
+
+// Makes the call with the slice of `dst` between its guard bytes, as long as `after`, and compares everything that can be observed.
+fn run(
+    case: Case,
+    r: &[u8],
+    g: &[u8],
+    b: &[u8],
+    a: &[u8],
+    dst: &mut [u8],
+    after: &[u8],
+) -> LineResult
+    requires { ⌜ length (now after) + 32 ≤ length (now dst) ⌝ }
+{
+    let encoded = call(
+        case,
+        r,
+        g,
+        b,
+        a,
+        &mut dst[GUARD_SIZE..GUARD_SIZE + after.len()],
+    );
+    let comparison = guarded::compare_slice(dst, after);
+    let expected = case.answer;
+    let got = answer_of_encoded(encoded);
+    let header_equal = has_expected_header(case, encoded);
+    report::case_result(
+        expected,
+        got,
+        header_equal,
+        comparison.bytes_equal,
+        comparison.guards_unchanged,
+    )
+}
+
+// Makes the call of a case.
+fn call(case: Case, r: &[u8], g: &[u8], b: &[u8], a: &[u8], dst: &mut [u8]) -> Encoded {
+    guarded::prepare(dst);
+    let source = case.source;
+    match source {
+        SourceKind::Channels => call_with_channels(case, r, g, b, a, dst),
+        SourceKind::Pixels => call_with_pixels(case, r, dst),
+    }
+}
+
+fn call_with_channels(
+    case: Case,
+    r: &[u8],
+    g: &[u8],
+    b: &[u8],
+    a: &[u8],
+    dst: &mut [u8],
+) -> Encoded {
+    if case.alpha {
+        return bitmap_encoder::encode_channels_stream_alpha(
+            r,
+            g,
+            b,
+            a,
+            dst,
+            case.rle,
+            case.width,
+            case.height,
+        );
+    }
+    bitmap_encoder::encode_channels_stream(r, g, b, dst, case.rle, case.width, case.height)
+}
+
+fn call_with_pixels(case: Case, pixels: &[u8], dst: &mut [u8]) -> Encoded {
+    if case.alpha {
+        return bitmap_encoder::encode_bitmap_alpha(pixels, dst, case.rle, case.width, case.height);
+    }
+    bitmap_encoder::encode_bitmap(pixels, dst, case.rle, case.width, case.height)
+}
+
+fn answer_of_encoded(encoded: Encoded) -> Answer {
+    match encoded {
+        Encoded::Written { bytes, header: _ } => Answer {
+            refused: false,
+            number: bytes,
+        },
+        Encoded::Refused(refusal) => report::answer_of_refusal(refusal),
+    }
+}
+
+// Whether the returned header record is that of the line. A refusal returns none.
+fn has_expected_header(case: Case, encoded: Encoded) -> bool {
+    match encoded {
+        Encoded::Written { bytes: _, header } => is_header_equal(case.header, header),
+        Encoded::Refused(_) => true,
+    }
+}
+
+fn is_header_equal(expected: ExpectedHeader, header: BitmapStreamHeader) -> bool {
+    let definition = header.color_plane_definition;
+    let argb = is_argb(definition);
+    expected.rle == header.enable_rle_compression
+        && expected.alpha == header.use_alpha
+        && expected.argb == argb
+}
+
+fn is_argb(definition: ColorPlaneDefinition) -> bool {
+    match definition {
+        ColorPlaneDefinition::Argb => true,
+        ColorPlaneDefinition::AYCoCg {
+            color_loss_level: _,
+            use_chroma_subsampling: _,
+        } => false,
+    }
+}
