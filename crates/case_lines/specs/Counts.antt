@@ -1,5 +1,5 @@
 -- What the functions that read a field return: how many bytes were written to the caller's slice, and the index after the field. Both are 0
--- for a malformed field. Assumes nothing.
+-- for a malformed field.
 use Prim.Native.Nat.{ℕ}
 use Rattle.case_lines.specs.declared.read.Number.{Number}
 use Rattle.case_lines.specs.declared.read.Number.the-variants as number

@@ -1,4 +1,4 @@
--- What is compared after the call of a case, and the result. Assumes nothing.
+-- What is compared after the call of a case, and the result.
 use Prim.Native.Nat.{ℕ, _+_, _≤_}
 use mathlib.Core.Path.{_≡_}
 use mathlib.Core.Bool.{Bool, true, _&&_, Bool·beq, cond}
