@@ -93,13 +93,13 @@ workedPictures =
     ∷ []
 
 -- Colours. With level 7 the factor is 64: Co 3 is 192, which is −64; Cg 9 is 576, which is 64 mod 256; 36 − 64 is clipped. Level 1, two by
--- two: Y 250, Co −128, Cg 10 is 112, 260, 368; Y 128, Co 127, Cg 0 is 255, 128, 1; Y 10, Co 0, Cg −20 is 30, −10, 30; Y 0, Co 1, Cg −1 is 2, −1, 0
+-- two: Y 250, Co −128, Cg 6 is 116, 256, 372; Y 128, Co 127, Cg 0 is 255, 128, 1; Y 10, Co 0, Cg −20 is 30, −10, 30; Y 0, Co 1, Cg −1 is 2, −1, 0
 abbrev pub colours : List Example
 colours =
     unpacksTo (aycocg false true 7) 1 1 (0xFF ∷ 100 ∷ 3 ∷ 9 ∷ []) (0 ∷ 164 ∷ 100 ∷ [])
     ∷ unpacksTo (aycocg false true 1) 2 2
-    (replicate 4 0xFF ++ 250 ∷ 128 ∷ 10 ∷ 0 ∷ 0x80 ∷ 0x7F ∷ 0 ∷ 1 ∷ 10 ∷ 0 ∷ 0xEC ∷ 0xFF ∷ [])
-    (112 ∷ 255 ∷ 255 ∷ 255 ∷ 128 ∷ 1 ∷ 30 ∷ 0 ∷ 30 ∷ 2 ∷ 0 ∷ 0 ∷ [])
+    (replicate 4 0xFF ++ 250 ∷ 128 ∷ 10 ∷ 0 ∷ 0x80 ∷ 0x7F ∷ 0 ∷ 1 ∷ 6 ∷ 0 ∷ 0xEC ∷ 0xFF ∷ [])
+    (116 ∷ 255 ∷ 255 ∷ 255 ∷ 128 ∷ 1 ∷ 30 ∷ 0 ∷ 30 ∷ 2 ∷ 0 ∷ 0 ∷ [])
     ∷ []
 
 -- Raw ARGB, two by two; then three by two with alpha, a pad byte, and a work area and an image that are longer than they need be
@@ -115,7 +115,8 @@ rawPictures =
     ∷ []
 
 -- Subsampled, three by three, so that the chroma planes are two by two. Y is 100 to 108; Co, and ten times as much Cg, are 1 1 2, 1 1 2, 3 3 4 by
--- rows. So t is 90 91 82, 93 94 85, 76 77 68. The RLE picture has the same planes, in differences of 3, of 2 and of 20
+-- rows. So t is 90 91 82, 93 94 85, 76 77 68. The RLE picture has the same planes, in differences of 3, of 2 and of 20. Then two wide and three high,
+-- with chroma planes one wide and two high: t is 90 91, 92 93, 84 85
 abbrev pub subsampledPictures : List Example
 subsampledPictures =
     unpacksTo (subsampledHeader false true) 3 3
@@ -132,6 +133,10 @@ subsampledPictures =
     ∷ 92 ∷ 113 ∷ 94 ∷ 93 ∷ 114 ∷ 95 ∷ 83 ∷ 125 ∷ 87
     ∷ 73 ∷ 136 ∷ 79 ∷ 74 ∷ 137 ∷ 80 ∷ 64 ∷ 148 ∷ 72 ∷ unwritten 1)
     (counted 27)
+    ∷ unpacksTo (subsampledHeader false false) 2 3 (planes.countFrom 100 6 ++ 1 ∷ 2 ∷ 10 ∷ 20 ∷ [])
+    (89 ∷ 110 ∷ 91 ∷ 90 ∷ 111 ∷ 92
+    ∷ 91 ∷ 112 ∷ 93 ∷ 92 ∷ 113 ∷ 94
+    ∷ 82 ∷ 124 ∷ 86 ∷ 83 ∷ 125 ∷ 87 ∷ [])
     ∷ sizes (subsampledHeader false true) 3 3 26 0 27
     ∷ sizes (subsampledHeader true true) 3 3 10 17 27
     ∷ []
@@ -167,6 +172,7 @@ abbrev pub refusals : List Example
 refusals =
     unpacks (aycocg true true 0) 0 9000 [] [] [] (refused 1)
     ∷ unpacks (aycocg true true 0) 8193 1 [] [] [] (refused 2)
+    ∷ unpacks (aycocg true true 0) 1 8193 [] [] [] (refused 2)
     ∷ unpacks (aycocg true true 0) 8192 8192 [] [] [] (refused 3)
     ∷ unpacks (aycocg true true 8) 1 1 [] [] [] (refused 3)
     ∷ unpacks (aycocg true true 7) 1 1 (replicate 3 0x00) [] [] (refused 4)
@@ -175,6 +181,7 @@ refusals =
     ∷ unpacks (argb true false) 1 1 (replicate 3 0x00) (unwritten 3) (unwritten 3) (refused 8)
     ∷ unpacks (argb false false) 1 1 (1 ∷ 2 ∷ []) [] [] (refused 4)
     ∷ unpacks (argb false false) 1 1 (1 ∷ 2 ∷ 3 ∷ []) [] (unwritten 2) (refused 6)
+    ∷ checks (argb true false) 3 2 6 17 20 (refused 5)
     ∷ checks (argb true false) 3 2 6 18 17 (refused 6)
     ∷ checks (argb true false) 3 2 6 18 20 (counted 18)
     ∷ unpackAnswer (Written 3) (counted 3)

@@ -76,7 +76,8 @@ onePixel =
 abbrev pub pixels : List ℕ
 pixels = 3 ∷ 2 ∷ 1 ∷ 4 ∷ 7 ∷ 6 ∷ 5 ∷ 8 ∷ 3 ∷ 1 ∷ 2 ∷ 4 ∷ 9 ∷ 6 ∷ 5 ∷ 8 ∷ 20 ∷ 20 ∷ 20 ∷ 20 ∷ []
 
--- The differences of its rows are R 1 0, G −1 0, B 0 2, A 0 0. Then R, G, B of a row of four equal pixels, whose runs are of 3
+-- The differences of its rows are R 1 0, G −1 0, B 0 2, A 0 0. Then the first three of these pixels, raw; and the first four samples of longer
+-- planes, each one raw byte and a run of 3
 abbrev pub morePixels : List Example
 morePixels =
     packs true true 2 2 (four pixels)
@@ -85,8 +86,8 @@ morePixels =
     ∷ 0x20 ∷ 2 ∷ 6 ∷ 0x20 ∷ 1 ∷ 0
     ∷ 0x20 ∷ 3 ∷ 7 ∷ 0x20 ∷ 0 ∷ 4 ∷ [])
     (encodedCount 24 (argb true false))
-    ∷ packs false false 2 2 (three pixels) (1 ∷ 5 ∷ 2 ∷ 5 ∷ 2 ∷ 6 ∷ 1 ∷ 6 ∷ 3 ∷ 7 ∷ 3 ∷ 9 ∷ 0 ∷ []) (encodedCount 13 (argb false false))
-    ∷ packs false true 4 1 (threePlanes (replicate 4 9) (replicate 4 8) (replicate 4 7)) (0x13 ∷ 9 ∷ 0x13 ∷ 8 ∷ 0x13 ∷ 7 ∷ 0xEE ∷ []) (encodedCount 6 (argb true false))
+    ∷ packs false false 1 3 (three pixels) (1 ∷ 5 ∷ 2 ∷ 2 ∷ 6 ∷ 1 ∷ 3 ∷ 7 ∷ 3 ∷ 0 ∷ []) (encodedCount 10 (argb false false))
+    ∷ packs false true 4 1 (threePlanes (replicate 8 9) (replicate 8 8) (replicate 8 7)) (0x13 ∷ 9 ∷ 0x13 ∷ 8 ∷ 0x13 ∷ 7 ∷ 0xEE ∷ []) (encodedCount 6 (argb true false))
     ∷ []
 
 -- Refusals (FORMAT 8.2): where the conditions of several hold, the answer is the one that is checked first. Of the last picture the third
@@ -95,6 +96,7 @@ abbrev pub refusals : List Example
 refusals =
     packs false true 0 9000 (three []) [] (encodedRefusal 1)
     ∷ packs false true 8193 1 (three []) [] (encodedRefusal 2)
+    ∷ packs false true 1 8193 (three []) [] (encodedRefusal 2)
     ∷ packs false true 8192 8192 (three []) [] (encodedRefusal 11)
     ∷ packs false true 2 2 (threePlanes (replicate 4 1) (replicate 4 2) (replicate 3 3)) [] (encodedRefusal 11)
     ∷ packAnswer (Written 4 (argb true false)) (encodedCount 4 (argb true false))
