@@ -114,9 +114,13 @@ rawPictures =
     (counted 18)
     ∷ []
 
+-- two wide and three high. Y is 100 to 105, Co is 1 and 2, Cg ten times as much, one wide and two high. So t is 90 91, 92 93, 84 85
+abbrev pub twoByThree : List ℕ
+twoByThree = 89 ∷ 110 ∷ 91 ∷ 90 ∷ 111 ∷ 92 ∷ 91 ∷ 112 ∷ 93 ∷ 92 ∷ 113 ∷ 94 ∷ 82 ∷ 124 ∷ 86 ∷ 83 ∷ 125 ∷ 87 ∷ []
+
 -- Subsampled, three by three, so that the chroma planes are two by two. Y is 100 to 108; Co, and ten times as much Cg, are 1 1 2, 1 1 2, 3 3 4 by
--- rows. So t is 90 91 82, 93 94 85, 76 77 68. The RLE picture has the same planes, in differences of 3, of 2 and of 20. Then two wide and three high,
--- with chroma planes one wide and two high: t is 90 91, 92 93, 84 85
+-- rows. So t is 90 91 82, 93 94 85, 76 77 68. The RLE picture has the same planes, in differences of 3, of 2 and of 20. Then two wide and
+-- three high, raw and RLE
 abbrev pub subsampledPictures : List Example
 subsampledPictures =
     unpacksTo (subsampledHeader false true) 3 3
@@ -133,10 +137,10 @@ subsampledPictures =
     ∷ 92 ∷ 113 ∷ 94 ∷ 93 ∷ 114 ∷ 95 ∷ 83 ∷ 125 ∷ 87
     ∷ 73 ∷ 136 ∷ 79 ∷ 74 ∷ 137 ∷ 80 ∷ 64 ∷ 148 ∷ 72 ∷ unwritten 1)
     (counted 27)
-    ∷ unpacksTo (subsampledHeader false false) 2 3 (planes.countFrom 100 6 ++ 1 ∷ 2 ∷ 10 ∷ 20 ∷ [])
-    (89 ∷ 110 ∷ 91 ∷ 90 ∷ 111 ∷ 92
-    ∷ 91 ∷ 112 ∷ 93 ∷ 92 ∷ 113 ∷ 94
-    ∷ 82 ∷ 124 ∷ 86 ∷ 83 ∷ 125 ∷ 87 ∷ [])
+    ∷ unpacksTo (subsampledHeader false false) 2 3 (planes.countFrom 100 6 ++ 1 ∷ 2 ∷ 10 ∷ 20 ∷ []) twoByThree
+    ∷ unpacksTo (subsampledHeader true false) 2 3
+    (0x20 ∷ 100 ∷ 101 ∷ 0x20 ∷ 4 ∷ 4 ∷ 0x20 ∷ 4 ∷ 4 ∷ 0x10 ∷ 1 ∷ 0x10 ∷ 2 ∷ 0x10 ∷ 10 ∷ 0x10 ∷ 20 ∷ [])
+    twoByThree
     ∷ sizes (subsampledHeader false true) 3 3 26 0 27
     ∷ sizes (subsampledHeader true true) 3 3 10 17 27
     ∷ []
