@@ -147,9 +147,9 @@ refusalExamples =
     ∷ packs 3 1 (7 ∷ 7 ∷ 7 ∷ []) (0xEE ∷ 0xEE ∷ 0xEE ∷ []) (refused 12)
     ∷ []
 
--- The words that other definitions use
-abbrev pub wordExamples : List Example
-wordExamples =
+-- A write at an index; the numbers of the refusals; answers of the code
+abbrev pub conversionExamples : List Example
+conversionExamples =
     writes (1 ∷ 2 ∷ 3 ∷ 4 ∷ []) 1 (8 ∷ 9 ∷ []) (1 ∷ 8 ∷ 9 ∷ 4 ∷ [])
     ∷ numbers (ZeroSize ∷ TooLarge ∷ LossLevel ∷ InvalidUncompressedDataSize ∷ ShortWork ∷ ShortImage ∷ ReadCompressedData ∷ InvalidSegmentHeader ∷ SegmentDoNotFitScanline ∷ ShortPlane ∷ NotEnoughBytes ∷ BufferTooSmall ∷ []) (countFrom 1 12)
     ∷ unpackAnswer (unpacked.Read 5) (counted 5)
@@ -159,4 +159,4 @@ wordExamples =
     ∷ []
 
 abbrev pub examples : List Example
-examples = workedExamples ++ rowExamples ++ planeExamples ++ refusalExamples ++ wordExamples
+examples = workedExamples ++ rowExamples ++ planeExamples ++ refusalExamples ++ conversionExamples
