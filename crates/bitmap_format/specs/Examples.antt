@@ -13,7 +13,7 @@ use Rattle.bitmap_format.specs.declared.ColorPlaneDefinition.the-variant
 use Rattle.bitmap_format.specs.declared.Decoded.{Decoded}
 use Rattle.bitmap_format.specs.declared.Decoded.the-variants.{Written, Refused}
 use Rattle.bitmap_format.specs.Sizes.{minBodySize, workSize, imageSize}
-use Rattle.bitmap_format.specs.Picture.{checkPicture, unpackPicture, decodedToAnswer}
+use Rattle.bitmap_format.specs.Picture.{PictureOutcome, checkPicture, unpackPicture, decodedToAnswer}
 
 pub data Example : Type 0 where
   -- an example of a plane
@@ -33,21 +33,20 @@ pub data Example : Type 0 where
 abbrev pub unwritten : (n : ℕ) → List ℕ
 unwritten n = replicate n 0xEE
 
+-- a picture unpacked, with a work area and an image of these lengths
+abbrev pub unpacked : BitmapStreamHeader → (width height : ℕ) (body : List ℕ) (workLength imageLength : ℕ) → PictureOutcome
+unpacked header w h body workLength imageLength = unpackPicture header w h body (unwritten workLength) (unwritten imageLength)
+
+abbrev pub imageAndAnswer : PictureOutcome → planes.After
+imageAndAnswer o = record { slice = o .image; answer = o .answer }
+
 -- what the definitions compute; work area and image have the lengths that they have afterwards
 abbrev pub computed : Example → List planes.After
 computed (plane e) = planes.computed e
-computed (unpacksTo header w h body image) =
-    record {
-      slice = unpackPicture header w h body (unwritten (workSize header w h)) (unwritten (length image)) .image;
-      answer = unpackPicture header w h body (unwritten (workSize header w h)) (unwritten (length image)) .answer;
-    }
-    ∷ []
+computed (unpacksTo header w h body image) = imageAndAnswer (unpacked header w h body (workSize header w h) (length image)) ∷ []
 computed (unpacks header w h body work image a) =
-    planes.values (unpackPicture header w h body (unwritten (length work)) (unwritten (length image)) .work)
-    ∷ record {
-      slice = unpackPicture header w h body (unwritten (length work)) (unwritten (length image)) .image;
-      answer = unpackPicture header w h body (unwritten (length work)) (unwritten (length image)) .answer;
-    }
+    planes.values (unpacked header w h body (length work) (length image) .work)
+    ∷ imageAndAnswer (unpacked header w h body (length work) (length image))
     ∷ []
 computed (sizes header w h body work image) = planes.values (minBodySize header w h ∷ workSize header w h ∷ imageSize w h ∷ []) ∷ []
 computed (checks header w h body work image a) = planes.onlyAnswer (checkPicture header w h body work image) ∷ []

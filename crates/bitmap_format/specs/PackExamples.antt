@@ -7,11 +7,10 @@ use lib.ListN.{length, replicate}
 use Rattle.rle_format.specs.declared.Refusal.the-variants.{NotEnoughBytes}
 use Rattle.rle_format.specs.Slice.{overwrite}
 use Rattle.pixel_format.specs.Channel.{bgrA}
-use Rattle.bitmap_format.specs.declared.BitmapStreamHeader.{BitmapStreamHeader}
-use Rattle.bitmap_format.specs.declared.ColorPlaneDefinition.the-variants.{Argb}
 use Rattle.bitmap_format.specs.declared.Encoded.{Encoded}
 use Rattle.bitmap_format.specs.declared.Encoded.the-variants.{Written, Refused}
 use Rattle.bitmap_format.specs.PackPicture.{threePlanes, pixelPlanes, pixelPlanesAlpha, packPicture, headerToSend, EncodedAnswer, encodedCount, encodedRefusal, withHeader, encodedToAnswer}
+use Rattle.bitmap_format.specs.Examples.{argb}
 
 -- a slice after a call, and its answer
 pub record After : Type 0 where
@@ -36,13 +35,6 @@ computed (packAnswer e a) = record { slice = []; answer = encodedToAnswer e }
 abbrev pub expected : Example → After
 expected (packs alpha rle w h planes slice a) = record { slice = slice; answer = a }
 expected (packAnswer e a) = record { slice = []; answer = a }
-
-abbrev pub argb : (rle alpha : Bool) → BitmapStreamHeader
-argb rle alpha = record {
-  «enable_rle_compression» = rle;
-  «use_alpha» = alpha;
-  «color_plane_definition» = Argb;
-}
 
 -- three planes, or four with alpha, of B, G, R, A pixels
 abbrev pub three : (pixels : List ℕ) → List (List ℕ)

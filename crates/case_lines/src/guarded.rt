@@ -24,8 +24,9 @@ pub struct Comparison {
     pub guards_unchanged: bool,
 }
 
-// An array for the longest slice and its guard bytes. The contract gives only its length.
+// An array for the longest slice and its guard bytes. Its length is stated by itself, since that is what callers need.
 pub fn new_array() -> [u8; MAX_SLICE + GUARD_SIZE * 2]
+    ensures { λ r. ⌜ r ≡ replicate 33032 0xC7 ⌝ }
     ensures { λ r. ⌜ 33032 ≡ length r ⌝ }
 {
     [GUARD_BYTE; MAX_SLICE + GUARD_SIZE * 2]

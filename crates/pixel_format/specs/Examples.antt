@@ -26,16 +26,16 @@ computed e = samplesOf (e .layout) (e .channel) (e .slice)
 abbrev pub expected : Example → List ℕ
 expected e = e .samples
 
--- two pixels of B, G, R, A, and three bytes of a third
+-- three pixels of B, G, R, A, and three bytes of a fourth
 abbrev pub pixels : List ℕ
-pixels = 1 ∷ 2 ∷ 3 ∷ 4 ∷ 5 ∷ 6 ∷ 7 ∷ 8 ∷ 9 ∷ 10 ∷ 11 ∷ []
+pixels = 1 ∷ 2 ∷ 3 ∷ 4 ∷ 5 ∷ 6 ∷ 7 ∷ 8 ∷ 9 ∷ 10 ∷ 11 ∷ 12 ∷ 13 ∷ 14 ∷ 15 ∷ []
 
 -- each channel of the pixels; then the same bytes as one channel
 abbrev pub examples : List Example
 examples =
-    example BgrA B pixels (1 ∷ 5 ∷ [])
-    ∷ example BgrA G pixels (2 ∷ 6 ∷ [])
-    ∷ example BgrA R pixels (3 ∷ 7 ∷ [])
-    ∷ example BgrA A pixels (4 ∷ 8 ∷ [])
-    ∷ example Planar R pixels (1 ∷ 2 ∷ 3 ∷ 4 ∷ 5 ∷ 6 ∷ 7 ∷ 8 ∷ 9 ∷ 10 ∷ 11 ∷ [])
+    example BgrA B pixels (1 ∷ 5 ∷ 9 ∷ [])
+    ∷ example BgrA G pixels (2 ∷ 6 ∷ 10 ∷ [])
+    ∷ example BgrA R pixels (3 ∷ 7 ∷ 11 ∷ [])
+    ∷ example BgrA A pixels (4 ∷ 8 ∷ 12 ∷ [])
+    ∷ example Planar R pixels (1 ∷ 2 ∷ 3 ∷ 4 ∷ 5 ∷ 6 ∷ 7 ∷ 8 ∷ 9 ∷ 10 ∷ 11 ∷ 12 ∷ 13 ∷ 14 ∷ 15 ∷ [])
     ∷ []

@@ -6,8 +6,8 @@ use mathlib.Core.List.{List, [], _∷_}
 use lib.IntN.{ℤ, pos, negsuc}
 use Rattle.rle_format.specs.Answer.{Answer, counted, refused}
 use Rattle.bitmap_format.specs.declared.BitmapStreamHeader.{BitmapStreamHeader}
-use Rattle.bitmap_format.specs.declared.ColorPlaneDefinition.{ColorPlaneDefinition}
 use Rattle.bitmap_format.specs.declared.ColorPlaneDefinition.the-variants.{Argb, AYCoCg}
+use Rattle.bitmap_format.specs.Examples as pictures
 use Rattle.rdp6.specs.Number.{cNumber}
 use Rattle.rdp6.specs.Header.{cHeader}
 
@@ -32,22 +32,15 @@ abbrev pub expected : Example → Meaning
 expected (takes rle alpha definition level s h) = header h
 expected (returns a n) = number n
 
-abbrev pub headerRecord : (rle alpha : Bool) → ColorPlaneDefinition → BitmapStreamHeader
-headerRecord rle alpha definition = record {
-  «enable_rle_compression» = rle;
-  «use_alpha» = alpha;
-  «color_plane_definition» = definition;
-}
-
 -- ARGB, whatever level and subsampling are; AYCoCg with the least and the greatest level; a level over 7 and an unknown definition, both taken
 -- for level 0. The last number is −7
 abbrev pub examples : List Example
 examples =
-    takes true false 0 5 true (headerRecord true false Argb)
-    ∷ takes false true 1 1 false (headerRecord false true (AYCoCg 1 false))
-    ∷ takes true true 1 7 true (headerRecord true true (AYCoCg 7 true))
-    ∷ takes false false 1 8 true (headerRecord false false (AYCoCg 0 true))
-    ∷ takes false false 2 3 false (headerRecord false false (AYCoCg 0 false))
+    takes true false 0 5 true (pictures.header true false Argb)
+    ∷ takes false true 1 1 false (pictures.header false true (AYCoCg 1 false))
+    ∷ takes true true 1 7 true (pictures.header true true (AYCoCg 7 true))
+    ∷ takes false false 1 8 true (pictures.header false false (AYCoCg 0 true))
+    ∷ takes false false 2 3 false (pictures.header false false (AYCoCg 0 false))
     ∷ returns (counted 5) (pos 5)
     ∷ returns (refused 7) (negsuc 6)
     ∷ []
