@@ -33,9 +33,9 @@
  *
  * Threads. There is no state: any number of threads may call at once, each with its own buffers.
  *
- * Stack. A call that packs takes at most 17,440 bytes, one that unpacks fewer than 500. In a program that binds lazily the first call
- * takes more, since the dynamic linker looks up memcpy and memset on the same stack. Measured with glibc 2.36: 20,232 bytes to pack, 3,592 to
- * unpack. Linking with -z now avoids that.
+ * Stack. A call that packs takes at most 17,440 bytes, one that unpacks fewer than 9,100. In a program that binds lazily the first call
+ * takes more, since the dynamic linker looks up memcpy and memset on the same stack. Measured with glibc 2.36: 20,232 bytes to pack, 11,912
+ * to unpack. Linking with -z now avoids that.
  *
  * Backtraces. The library has no unwind tables (.eh_frame). A backtrace taken during a call, by a debugger, a profiler or a signal
  * handler, stops at a function of the library: its callers are missing, and gdb may print frames there that do not exist.
@@ -108,7 +108,7 @@ static inline const char *rdp6_refusal_text(int64_t number)
 
 /*
  * Unpacks an RLE plane of width * height samples (FORMAT 4; MS-RDPEGDI 3.1.9.2) from src into the first width * height bytes of dst,
- * and returns the number of bytes of src that were read. What follows them in src is not read.
+ * and returns the number of bytes of src that it has. What follows them in src may be read, but has no effect.
  *
  * Refusals, checked in this order:
  *    1  width or height is 0          }
@@ -155,7 +155,7 @@ enum rdp6_definition {
  *
  *   body_len    raw: (1 + alpha) * width * height + 2 * chroma
  *               RLE: (1 + alpha) * rle_min(width, height) + 2 * rle_min(the chroma sides), where rle_min(w, h) = h * ((w + 46) / 47);
- *               a longer body is accepted, and what follows the last plane is not read
+ *               a longer body is accepted: what follows the last plane has no effect
  *   work_len    RLE: width * height + 2 * chroma, which rdp6_work_size computes; raw: 0
  *   image_len   3 * width * height, which rdp6_image_size computes
  *

@@ -55,7 +55,7 @@ fn check_plane(function: Plane, case: &[&str]) {
 
 #[test]
 fn planes_unpacked() {
-    for file in ["plane-unpack.txt", "examples.txt", "refusals.txt"] {
+    for file in ["plane-unpack.txt", "plane-unpack-boundaries.txt", "examples.txt", "refusals.txt"] {
         for_each_case("plane_vectors", file, |case| check_plane(decompress_8bpp_plane, case));
     }
 }

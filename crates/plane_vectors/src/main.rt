@@ -13,6 +13,7 @@ fn main() {
     replay(Operation::Pack, b"refusals-pack.txt");
     replay(Operation::RoundTrip, b"prefixes.txt");
     replay(Operation::Unpack, b"plane-unpack.txt");
+    replay(Operation::Unpack, b"plane-unpack-boundaries.txt");
     replay(Operation::Pack, b"plane-pack.txt");
 }
 

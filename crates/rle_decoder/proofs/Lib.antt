@@ -1,3 +1,5 @@
+mod Appended
 mod Segments
+mod Restore
 mod RowLoop
 mod RowsLoop

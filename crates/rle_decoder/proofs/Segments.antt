@@ -1,32 +1,49 @@
 -- The segment reader's answer, made of what the body has and taken apart again. Assumes nothing.
 use mathlib.Core.Path.{_≡_, refl, sym, ap, _∙_}
-use mathlib.Core.List.{List}
-use Prim.Native.Nat.{ℕ, _+_, _-_, _≤_, _<_}
+use mathlib.Core.List.{List, _++_}
+use mathlib.Core.Logic.{⊎-elim}
+use Prim.Native.Nat.{ℕ, _+_, _-_, _*_, _/_, _%_, _≤_, _<_}
 use native.Mathlib.Omega.{arith}
-use lib.ListN.{length, take, drop, getD, length-drop}
+use lib.ListN.{length, take, drop, getD, replicate, length-drop}
 use lib.Seq.{length-take-le, drop-drop}
 use Rattle.rle_format.specs.Segment.{Segment, lastOr, lastByteAfter, rawCount, runLength, SegmentRead, segment, refused-segment, readSegment}
-use Rattle.rle_format.proofs.Segment.{segment-facts, read-complete, read-missing-raw}
-use Rattle.rle_decoder.specs.NextSegment.{read, refused-by, segmentAnswer}
+use Rattle.rle_format.proofs.Cases.{eq-or-ne}
+use Rattle.rle_format.proofs.Segment.{segment-facts, control-run-1, control-run-2, read-complete}
+use Rattle.rle_decoder.specs.NextSegment.{read, refused-by, segmentAnswer, valuesOf}
+use Rattle.rle_decoder.specs.Appended.{Appended}
+use Rattle.rle_decoder.proofs.Appended.{appended-none}
 
 -- a refusal is no segment that was read
 pub refused-not-read : {r raw run last : ℕ} {X : Type 0} → refused-by r ≡ read raw run last → X
 refused-not-read e = let z : _≡_ {A = ℕ} 0 1 = cc in absurd (omega arith)
 
--- the answer if the control byte at an index and its raw bytes are there
-pub answer-read : (s : List ℕ) (at before raw run last : ℕ) → at < length s → (getD s at 0 ≡ 0 → ⊥) → raw ≡ rawCount (getD s at 0) → run ≡ runLength (getD s at 0)
-    → raw ≤ length s - at - 1 → last ≡ lastOr before (take raw (drop (at + 1) s)) → read raw run last ≡ segmentAnswer before (readSegment (drop at s))
-answer-read s at before raw run last h z er en there el =
-    let n : length (take raw (drop (at + 1) s)) ≡ raw = length-take-le raw (drop (at + 1) s) (omega (arith, length-drop (at + 1) s)) in
-    let e = read-complete s at h z (rw er at there) in
-    (λ i. read (sym n i) (en i) (el i))
-    ∙ ap (λ (k : ℕ). read (length (take k (drop (at + 1) s))) (runLength (getD s at 0)) (lastOr before (take k (drop (at + 1) s)))) er
-    ∙ sym (ap (segmentAnswer before) e)
+-- a long run, by the low four bits of its control byte
+pub says-long : (c : ℕ) → 1 ≤ c % 16 → c % 16 ≤ 2 → (0 ≡ rawCount c) × (c % 16 * 16 + c / 16 ≡ runLength c)
+says-long c l h =
+    ⊎-elim (λ (one : c % 16 ≡ 1). let s = control-run-1 c one in (s .0, omega (arith, s .1)))
+    (λ (not-one : c % 16 ≡ 1 → ⊥). let two : c % 16 ≡ 2 = omega arith in let s = control-run-2 c not-one two in (s .0, omega (arith, s .1)))
+    (eq-or-ne (c % 16) 1)
 
--- the answer if raw bytes are missing
-pub answer-missing-raw : (s : List ℕ) (at before raw : ℕ) → at < length s → (getD s at 0 ≡ 0 → ⊥) → raw ≡ rawCount (getD s at 0) → length s - at - 1 < raw
-    → refused-by 7 ≡ segmentAnswer before (readSegment (drop at s))
-answer-missing-raw s at before raw h z er short = sym (ap (segmentAnswer before) (read-missing-raw s at h z (rw er at short)))
+-- ---- the reader's answer and what it wrote, from what stands at a position of the body. d is the array before, and now after
+
+-- a refusal, at which nothing was written
+pub answers-none : (s d : List ℕ) (at before column r : ℕ) → readSegment (drop at s) ≡ refused-segment r
+    → (refused-by r ≡ segmentAnswer before (readSegment (drop at s))) × Appended d d column (valuesOf before (readSegment (drop at s)))
+answers-none s d at before column r e = (sym (ap (segmentAnswer before) e), rw e (appended-none d column))
+
+-- a segment whose control byte and raw bytes are there
+pub answers-read : (s d now : List ℕ) (at before column raw run last : ℕ) → at < length s → (getD s at 0 ≡ 0 → ⊥) → raw ≡ rawCount (getD s at 0)
+    → run ≡ runLength (getD s at 0) → raw ≤ length s - at - 1 → last ≡ lastOr before (take raw (drop (at + 1) s))
+    → Appended d now column (take raw (drop (at + 1) s) ++ replicate run last)
+    → (read raw run last ≡ segmentAnswer before (readSegment (drop at s))) × Appended d now column (valuesOf before (readSegment (drop at s)))
+answers-read s d now at before column raw run last h z er en there el appended =
+    let bytes = take raw (drop (at + 1) s) in
+    let n : length bytes ≡ raw = length-take-le raw (drop (at + 1) s) (omega (arith, length-drop (at + 1) s)) in
+    let e : readSegment (drop at s) ≡ segment (record { raw = bytes; run = run }) =
+    read-complete s at h z (rw er at there) ∙ (λ i. segment (record { raw = take (sym er i) (drop (at + 1) s); run = sym en i })) in (
+      (λ i. read (sym n i) run (el i)) ∙ sym (ap (segmentAnswer before) e),
+      rw (e, ← el) appended,
+    )
 
 -- what an answer says of the body at an index: a segment with that number of raw bytes and that run lies within it
 pub record FoundSegment (s : List ℕ) (at before raw run last : ℕ) : Type 0 where
@@ -38,6 +55,12 @@ pub record FoundSegment (s : List ℕ) (at before raw run last : ℕ) : Type 0 w
   pub raw-is : it .raw ≡ take raw (drop (at + 1) s)
   pub within : at + raw < length s
   pub some : 1 ≤ raw + run
+
+-- what the loops need of it: it lies within the body, has a value, and is short
+pub record SegmentBounds (s : List ℕ) (at raw run : ℕ) : Type 0 where
+  pub within : at + raw < length s
+  pub some : 1 ≤ raw + run
+  pub few : raw + run ≤ 47
 
 pub found-segment : (s : List ℕ) (at before raw run last : ℕ) → read raw run last ≡ segmentAnswer before (readSegment (drop at s)) → FoundSegment s at before raw run last
 found-segment s at before raw run last e = go (readSegment (drop at s)) refl e

@@ -1,2 +1,3 @@
+pub mod Appended
 pub mod NextSegment
 pub mod Rows

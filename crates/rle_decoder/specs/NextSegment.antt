@@ -1,8 +1,9 @@
 -- The answer of reading a segment, and what a row does with it. Only contracts of inner functions use these.
 use Prim.Native.Nat.{ℕ}
+use mathlib.Core.List.{List, []}
 use lib.ListN.{length}
 use Rattle.rle_format.specs.Answer.{Answer, refused, number}
-use Rattle.rle_format.specs.Segment.{SegmentRead, segment, refused-segment, lastByteAfter}
+use Rattle.rle_format.specs.Segment.{SegmentRead, segment, refused-segment, lastByteAfter, segmentValues}
 use Rattle.rle_decoder.specs.declared.segment.NextSegment.{NextSegment}
 use Rattle.rle_decoder.specs.declared.segment.NextSegment.the-variants.{Read, Refused}
 
@@ -25,3 +26,8 @@ nextToAnswer (Refused r) = refused-by (number r)
 abbrev pub rowStop : SegmentAnswer → Answer
 rowStop (read raw run last) = refused 9
 rowStop (refused-by r) = refused r
+
+-- the values of what was read; a refusal has none
+abbrev pub valuesOf : (before : ℕ) → SegmentRead → List ℕ
+valuesOf before (segment s) = segmentValues before s
+valuesOf before (refused-segment r) = []

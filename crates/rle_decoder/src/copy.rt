@@ -1,47 +1,58 @@
-// Copying the raw bytes of a segment. They are few, so they are copied in fixed steps and not by a loop.
+// Writing the values of a segment to the array of a row's codes.
 ghost use mathlib.Core.Path.{_≡_};
 ghost use Prim.Native.Nat.{_+_, _≤_};
-ghost use lib.ListN.{length, take, drop};
+ghost use mathlib.Core.List.{_++_};
+ghost use lib.ListN.{length, take, drop, replicate};
 ghost use Rattle.rle_format.specs.Slice.{writeAt};
+ghost use Rattle.rle_decoder.specs.Appended.{Appended};
 
-// Copies four bytes of src, from index `from` on, to dst from index `at` on. The compiler does not know that the slices do not overlap, but it
+// Copies 16 bytes of src, from index `from` on, to codes from index `at` on. The compiler does not know that the slices do not overlap, but it
 // knows it of the local array; by way of that the copy is one load and one store.
-fn copy_4(src: &[u8], from: usize, dst: &mut [u8], at: usize)
-    requires { ⌜ (from + 4 ≤ length (now src)) × (at + 4 ≤ length (now dst)) ⌝ }
-    ensures { λ _. ⌜ now (dst .exit) ≡ writeAt (now (dst .entry)) at (take 4 (drop from (now (src .entry)))) ⌝ }
+pub(crate) fn copy_16(src: &[u8], from: usize, codes: &mut [u8], at: usize)
+    requires { ⌜ (from + 16 ≤ length (now src)) × (at + 16 ≤ length (now codes)) ⌝ }
+    ensures { λ _. ⌜ now (codes .exit) ≡ writeAt (now (codes .entry)) at (take 16 (drop from (now (src .entry)))) ⌝ }
 {
-    let mut four = [0u8; 4];
-    bytes::copy(&src[from..from + 4], &mut four[0..]);
-    bytes::copy(&four[0..], &mut dst[at..]);
+    let mut sixteen = [0u8; 16];
+    bytes::copy(&src[from..from + 16], &mut sixteen[0..]);
+    bytes::copy(&sixteen[0..], &mut codes[at..]);
 }
 
-// The same for eight bytes.
-fn copy_8(src: &[u8], from: usize, dst: &mut [u8], at: usize)
-    requires { ⌜ (from + 8 ≤ length (now src)) × (at + 8 ≤ length (now dst)) ⌝ }
-    ensures { λ _. ⌜ now (dst .exit) ≡ writeAt (now (dst .entry)) at (take 8 (drop from (now (src .entry)))) ⌝ }
+// Writes `run` copies of a value to codes from index `at` on.
+pub(crate) fn fill_run(codes: &mut [u8], at: usize, run: usize, value: u8)
+    requires { ⌜ at + run ≤ length (now codes) ⌝ }
+    ensures { λ _. ⌜ now (codes .exit) ≡ writeAt (now (codes .entry)) at (replicate run value) ⌝ }
 {
-    let mut eight = [0u8; 8];
-    bytes::copy(&src[from..from + 8], &mut eight[0..]);
-    bytes::copy(&eight[0..], &mut dst[at..]);
+    let mut i = 0;
+    while i < run {
+        codes[at + i] = value;
+        i += 1;
+    }
 }
 
-// Copies a segment's raw bytes to dst from index `at` on, and writes nothing else. 4 to 15 bytes take two copies of 4 or 8 bytes that overlap,
-// one of the first bytes and one of the last.
-pub(crate) fn copy_raw(raw: &[u8], dst: &mut [u8], at: usize)
-    requires { ⌜ (length (now raw) ≤ 15) × (at + length (now raw) ≤ length (now dst)) ⌝ }
-    ensures { λ _. ⌜ now (dst .exit) ≡ writeAt (now (dst .entry)) at (now (raw .entry)) ⌝ }
+// Writes the values of a segment that is not a long run: its raw bytes, which begin at index `from` of src, and its run. Each is written as
+// 16 bytes, so that no branch depends on its count. The run overwrites what was copied behind the raw bytes, and the next segment what was
+// filled behind the run.
+pub(crate) fn write_segment_wide(
+    src: &[u8],
+    from: usize,
+    raw: usize,
+    run: usize,
+    last: u8,
+    codes: &mut [u8],
+    at: usize,
+)
+    requires { ⌜ (raw ≤ 15) × (run ≤ 15) × (from + 16 ≤ length (now src)) × (at + 31 ≤ length (now codes)) ⌝ }
+    ensures { λ _. ⌜ Appended (now (codes .entry)) (now (codes .exit)) at (take raw (drop from (now (src .entry))) ++ replicate run last) ⌝ }
 {
-    if 8 <= raw.len() {
-        let last = raw.len() - 8;
-        copy_8(raw, 0, dst, at);
-        copy_8(raw, last, dst, at + last);
-        return;
-    }
-    if 4 <= raw.len() {
-        let last = raw.len() - 4;
-        copy_4(raw, 0, dst, at);
-        copy_4(raw, last, dst, at + last);
-        return;
-    }
-    bytes::copy(raw, &mut dst[at..]);
+    copy_16(src, from, codes, at);
+    fill_run(codes, at + raw, 16, last);
+}
+
+// Writes the values of any segment, and nothing behind them.
+pub(crate) fn write_segment(raw: &[u8], run: usize, last: u8, codes: &mut [u8], at: usize)
+    requires { ⌜ at + (length (now raw) + run) ≤ length (now codes) ⌝ }
+    ensures { λ _. ⌜ now (codes .exit) ≡ writeAt (now (codes .entry)) at (now (raw .entry) ++ replicate run last) ⌝ }
+{
+    bytes::copy(raw, &mut codes[at..]);
+    fill_run(codes, at + raw.len(), run, last);
 }

@@ -1,18 +1,14 @@
 -- The delta code is undone over all pairs of bytes; and laws of the columns of two rows.
-use mathlib.Core.Path.{_≡_, refl, sym, ap, _∙_}
+use mathlib.Core.Path.{_≡_, refl, ap}
 use mathlib.Core.Bool.{Bool, true, false}
 use mathlib.Core.List.{List, [], _∷_}
 use Prim.Native.Nat.{ℕ, zero, suc, _+_, _-_, _*_, _/_, _%_, _≤_, _<_}
 use native.Mathlib.Omega.{arith}
-use native.Mathlib.Numerals.{add-one}
 use borrow.Author.Tests.{ltb-true, ltb-false, lt-ltb, le-ltb, eq-eqb, ne-eqb}
 use lib.Dec.{ltb}
-use lib.ListN.{length, take, drop, set, getD, length-take, length-drop}
-use lib.Seq.{take-suc, getD-take, getD-drop}
+use lib.ListN.{length, getD}
 use Rattle.rle_format.specs.Choice.{choose}
-use Rattle.rle_format.specs.Slice.{writeAt}
 use Rattle.rle_format.specs.Delta.{difference, deltaCode, differenceFromCode, undoDelta, zipWith}
-use Rattle.rle_format.proofs.Slice.{writeAt-snoc, getD-writeAt-before, getD-writeAt-behind}
 
 -- d comes back from its code
 differenceFromCode-code : (d : ℕ) → d < 256 → differenceFromCode (choose (ltb d 128) (2 * d) (2 * (255 - d) + 1)) ≡ d
@@ -66,36 +62,3 @@ getD-zipWith f [] ys i h k = absurd (omega arith)
 getD-zipWith f (x ∷ xs) [] i h k = absurd (omega arith)
 getD-zipWith f (x ∷ xs) (y ∷ ys) zero h k = refl
 getD-zipWith f (x ∷ xs) (y ∷ ys) (suc i) h k = getD-zipWith f xs ys i (omega arith) (omega arith)
-
--- ---- the second row of a slice, restored in place by the first
-
--- the samples of the second row of d, w wide, from its codes and the first row
-unfoldable pub restoredRow : (d : List ℕ) (w : ℕ) → List ℕ
-restoredRow d w = zipWith undoDelta (take w d) (take w (drop w d))
-
-pub length-restoredRow : (d : List ℕ) (w : ℕ) → w + w ≤ length d → length (restoredRow d w) ≡ w
-unfolding restoredRow
-length-restoredRow d w h =
-    let a : length (take w d) ≡ w = simp length-take (omega arith) in
-    let b : length (take w (drop w d)) ≡ w = simp (length-take, length-drop) (omega arith) in
-    length-zipWith undoDelta (take w d) (take w (drop w d)) (a ∙ sym b) ∙ b
-
--- an iteration of the loop that restores it. `now` is the slice at the start of the iteration
-pub restoredRow-step : (d now : List ℕ) (w i v : ℕ) → w + w ≤ length d → i < w → now ≡ writeAt d w (take i (restoredRow d w)) → v ≡ undoDelta (getD now i 0) (getD now (w + i) 0)
-    → set now (w + i) v ≡ writeAt d w (take (i + 1) (restoredRow d w))
-unfolding restoredRow
-restoredRow-step d now w i v h l e ev =
-    let S : List ℕ = restoredRow d w in
-    let a : i < length (take w d) = simp length-take (omega arith) in
-    let b : i < length (take w (drop w d)) = simp (length-take, length-drop) (omega arith) in
-    let n : length (take i S) ≡ i = simp length-take (omega (arith, length-restoredRow d w h)) in
-    let long : i < length S = omega (arith, length-restoredRow d w h) in
-    let upper : getD now i 0 ≡ getD d i 0 = rw e (getD-writeAt-before d w i (take i S) l (omega arith)) in
-    let lower : getD now (w + i) 0 ≡ getD d (w + i) 0 = rw e (getD-writeAt-behind d w i (take i S) n (omega arith)) in
-    let is : v ≡ getD S i 0 =
-    ev ∙ (λ j. undoDelta (upper j) (lower j))
-    ∙ sym (getD-zipWith undoDelta (take w d) (take w (drop w d)) i a b ∙ (λ j. undoDelta (getD-take w d i 0 l j) ((getD-take w (drop w d) i 0 l ∙ getD-drop w d i 0) j))) in
-    let room : w + length (take i S) < length d = omega arith in
-    (λ j. set (e j) (w + sym n j) (is j))
-    ∙ writeAt-snoc d w (take i S) (getD S i 0) room
-    ∙ ap (writeAt d w) (sym (rw (add-one, take-suc S i 0 long)))

@@ -111,7 +111,7 @@ abbrev pub AboveHasWidth : (w : ℕ) → Option (List ℕ) → Type 0
 AboveHasWidth w none = Unit {0}
 AboveHasWidth w (some above) = length above ≡ w
 
-restored-has-width : (w : ℕ) (above : Option (List ℕ)) (codes : List ℕ) → AboveHasWidth w above → length codes ≡ w → length (restoreRow above codes) ≡ w
+pub restored-has-width : (w : ℕ) (above : Option (List ℕ)) (codes : List ℕ) → AboveHasWidth w above → length codes ≡ w → length (restoreRow above codes) ≡ w
 restored-has-width w none codes a e = e
 restored-has-width w (some above) codes a e = length-zipWith undoDelta above codes (a ∙ sym e) ∙ e
 

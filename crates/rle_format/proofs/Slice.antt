@@ -94,12 +94,6 @@ unfolding writeAt
 getD-writeAt-before d at i vs h l =
     List·getD-append (take at d) (vs ++ drop (at + length vs) d) 0 i (simp length-take (omega arith)) ∙ getD-take at d i 0 h
 
--- right after what was written
-pub getD-writeAt-behind : (d : List ℕ) (at n : ℕ) (vs : List ℕ) → length vs ≡ n → at + n ≤ length d → getD (writeAt d at vs) (at + n) 0 ≡ getD d (at + n) 0
-getD-writeAt-behind d at n vs e l =
-    let back : (l : List ℕ) → getD (drop (at + length vs) l) 0 0 ≡ getD l (at + n) 0 = λ l. getD-drop (at + length vs) l 0 0 ∙ ap (λ (k : ℕ). getD l k 0) (omega arith) in
-    sym (back (writeAt d at vs)) ∙ ap (λ (l : List ℕ). getD l 0 0) (drop-writeAt d at vs (omega arith)) ∙ back d
-
 -- ---- a part passed as `&mut d[a..]`: the callee gets `suffix d a`, leaves ys, and d is then `replaceSuffix d a ys`
 
 abbrev pub suffix : List ℕ → ℕ → List ℕ
@@ -156,68 +150,14 @@ part-overwrite d ys vs a b h k n e =
 
 -- ---- more of writes
 
--- a write depends on the slice only by what is before and after it
-writeAt-cong : (d e : List ℕ) (at : ℕ) (vs : List ℕ) → take at d ≡ take at e → drop (at + length vs) d ≡ drop (at + length vs) e → writeAt d at vs ≡ writeAt e at vs
-unfolding writeAt
-writeAt-cong d e at vs p q = λ i. p i ++ (vs ++ q i)
-
 pub take-writeAt-before : (d : List ℕ) (at : ℕ) (vs : List ℕ) → at ≤ length d → take at (writeAt d at vs) ≡ take at d
 unfolding writeAt
 take-writeAt-before d at vs h = take-at (take at d) (vs ++ drop (at + length vs) d) at (simp length-take (omega arith))
-
--- a write over a write of as many bytes or fewer
-pub writeAt-twice : (d : List ℕ) (at : ℕ) (vs ws : List ℕ) → at + length vs ≤ length d → length vs ≤ length ws → writeAt (writeAt d at vs) at ws ≡ writeAt d at ws
-writeAt-twice d at vs ws fits h =
-    let more : at + length ws ≡ at + length vs + (length ws - length vs) = omega arith in
-    let far : (l : List ℕ) → drop (at + length ws) l ≡ drop (length ws - length vs) (drop (at + length vs) l) =
-    λ l. ap (λ (k : ℕ). drop k l) more ∙ sym (drop-drop (length ws - length vs) (at + length vs) l) in
-    let front : take at (writeAt d at vs) ≡ take at d = take-writeAt-before d at vs (omega arith) in
-    let back : drop (at + length ws) (writeAt d at vs) ≡ drop (at + length ws) d =
-    far (writeAt d at vs) ∙ ap (drop (length ws - length vs)) (drop-writeAt d at vs fits) ∙ sym (far d) in
-    writeAt-cong (writeAt d at vs) d at ws front back
-
--- the first k of s, and then its last k, which overlap them where s is shorter than both: s is written
-pub writeAt-two-ends : (d one two s : List ℕ) (at k from : ℕ) → from + k ≡ length s → from ≤ k → at + length s ≤ length d
-    → one ≡ writeAt d at (take k s) → two ≡ writeAt one (at + from) (take k (drop from s)) → two ≡ writeAt d at s
-writeAt-two-ends d one two s at k from n h fits e₁ e₂ =
-    let xs = take from s in
-    let ys = take (k - from) (drop from s) in
-    let left = length-drop from s in
-    let lx : length xs ≡ from = length-take-le from s (omega arith) in
-    let ly : length ys ≡ k - from = length-take-le (k - from) (drop from s) (omega arith) in
-    let all : take k (drop from s) ≡ drop from s = take-all k (drop from s) (omega arith) in
-    let lz : length (take k (drop from s)) ≡ k = length-take-le k (drop from s) (omega arith) in
-    let part : take k s ≡ xs ++ ys = ap (λ (m : ℕ). take m s) (let z : k ≡ from + (k - from) = omega arith in z) ∙ take-add from (k - from) s in
-    let front : at + length xs ≤ length d = omega arith in
-    let wide : length (writeAt d at xs) ≡ length d = length-writeAt d at xs front in
-    let twice : one ≡ writeAt (writeAt d at xs) (at + length xs) ys = e₁ ∙ ap (writeAt d at) part ∙ sym (writeAt-writeAt d at xs front ys) in
-    e₂
-    ∙ (λ i. writeAt (twice i) (at + sym lx i) (take k (drop from s)))
-    ∙ writeAt-twice (writeAt d at xs) (at + length xs) ys (take k (drop from s)) (omega arith) (omega arith)
-    ∙ writeAt-writeAt d at xs front (take k (drop from s))
-    ∙ ap (λ (l : List ℕ). writeAt d at (xs ++ l)) all
-    ∙ ap (writeAt d at) (take-append-drop from s)
-
--- the start written twice, the second time as many bytes or more
-pub overwrite-twice : (d vs ws : List ℕ) → length vs ≤ length ws → overwrite (overwrite d vs) ws ≡ overwrite d ws
-unfolding overwrite
-overwrite-twice d vs ws h =
-    let n : length ws ≡ length vs + (length ws - length vs) = omega arith in
-    ap (λ (l : List ℕ). ws ++ l)
-    (ap (λ (k : ℕ). drop k (vs ++ drop (length vs) d)) n
-    ∙ drop-append-add vs (drop (length vs) d) (length ws - length vs)
-    ∙ drop-drop (length ws - length vs) (length vs) d
-    ∙ ap (λ (k : ℕ). drop k d) (sym n))
 
 pub take-drop-swap : (l : List ℕ) (a w : ℕ) → take w (drop a l) ≡ drop a (take (a + w) l)
 take-drop-swap l zero w = ap (λ (k : ℕ). take k l) (sym (zero-add w))
 take-drop-swap [] (suc a) w = take-nil w ∙ sym (ap (drop (suc a)) (take-nil (suc a + w)))
 take-drop-swap (x ∷ l) (suc a) w = take-drop-swap l a w ∙ sym (ap (λ (k : ℕ). drop (suc a) (take k (x ∷ l))) (suc-add a w))
-
--- what a write left from its index on
-pub drop-writeAt-at : (d : List ℕ) (at : ℕ) (vs : List ℕ) → at ≤ length d → drop at (writeAt d at vs) ≡ vs ++ drop (at + length vs) d
-unfolding writeAt
-drop-writeAt-at d at vs h = drop-at (take at d) (vs ++ drop (at + length vs) d) at (simp length-take (omega arith))
 
 -- a write of a slice that has changed only before it
 pub writeAt-overwrite : (d₀ d : List ℕ) (at : ℕ) (vs : List ℕ) → at ≤ length d → drop at d ≡ drop at d₀ → writeAt d at vs ≡ overwrite d₀ (take at d ++ vs)

@@ -18,7 +18,7 @@ pub type BitmapDecodeError = Refusal;
 ///
 /// An RLE picture is unpacked into `work`, which then has its three colour planes one after the other; [`work_size`] is its minimum length.
 /// A raw picture does not use `work`, which may be empty. Bytes of both slices behind what is written are unchanged, and what follows the
-/// last plane in `body` is not read.
+/// last plane in `body` has no effect.
 ///
 /// ```
 /// use rdp6::{BitmapStreamHeader, ColorPlaneDefinition};

@@ -104,7 +104,7 @@ fn rows_alike(rng: &mut Rng, width: usize, height: usize) -> Vec<u8> {
 /// The sides of a random plane: mostly small, sometimes at the limits.
 pub fn sides(rng: &mut Rng) -> (usize, usize) {
     match rng.below(400) {
-        0 => (rng.within(8191, 8192), rng.within(1, 8)),
+        0 => (rng.within(MAX_SIDE - 2, MAX_SIDE), rng.within(1, 8)),
         1 => (rng.within(1, 3), rng.within(8191, 8192)),
         2..=5 => (rng.within(66, 1100), rng.within(1, 8)),
         6..=9 => (rng.within(1, 20), rng.within(9, 300)),
@@ -118,7 +118,8 @@ pub fn sides_outside(rng: &mut Rng) -> (usize, usize) {
     let (width, height) = sides(rng);
     let wrong = match rng.below(4) {
         0 | 1 => 0,
-        2 => MAX_SIDE + rng.within(1, 1000),
+        2 if rng.once_in(4) => MAX_SIDE + 1,
+        2 => MAX_SIDE + rng.within(2, 1000),
         _ => (rng.word() as usize) | (MAX_SIDE << 1),
     };
     match rng.below(3) {

@@ -41,6 +41,9 @@ pub enum Kind {
     Short,
     Alphabet,
     Rooms,
+    RowEnds,
+    RowsTruncated,
+    RowsDamaged,
     Table,
     Largest,
     Complete,
@@ -100,10 +103,13 @@ pub enum Kind {
 }
 
 /// Each kind with its part and its line of the report, in the order of the enum.
-const KINDS: [(Kind, Part, &str); 59] = [
+const KINDS: [(Kind, Part, &str); 62] = [
     (Kind::Short, Part::Unpacking, "all bodies of up to 2 bytes"),
     (Kind::Alphabet, Part::Unpacking, "bodies of 3 to 5 bytes, all forms of control bytes"),
     (Kind::Rooms, Part::Unpacking, "every destination length around width x height"),
+    (Kind::RowEnds, Part::Unpacking, "every control byte around the end of a row"),
+    (Kind::RowsTruncated, Part::Unpacking, "rows of boundary lengths, truncated"),
+    (Kind::RowsDamaged, Part::Unpacking, "rows of boundary lengths, other control bytes"),
     (Kind::Table, Part::Unpacking, "a table of sides, most of them refused"),
     (Kind::Largest, Part::Unpacking, "planes of 8192 x 8192"),
     (Kind::Complete, Part::Unpacking, "planes packed by IronRDP, complete"),

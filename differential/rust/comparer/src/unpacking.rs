@@ -1,4 +1,5 @@
 //! The cases of plane unpacking.
 
+pub mod boundary;
 pub mod fixed;
 pub mod random;

@@ -6,7 +6,7 @@ use comparer::planes::{counts, segment_starts};
 use comparer::prefix::random::Random;
 use comparer::prefix::{fixed, Model};
 use comparer::{Function, Library};
-use support::{exported, Call, RightPack, Search, Slices, RIGHT_LIBRARY, RIGHT_UNPACK};
+use support::{exported, undelta, Call, RightPack, Search, Slices, RIGHT_LIBRARY, RIGHT_UNPACK};
 
 const ALWAYS_7: u8 = 1;
 const SEVEN_IF_TRUNCATED: u8 = 2;
@@ -35,14 +35,6 @@ fn filled(slices: &Slices) -> usize {
     let fits = |&at: &usize| at + 1 + counts(source[at]).0 <= source.len();
     let complete = segment_starts(source).into_iter().filter(fits);
     complete.map(|at| counts(source[at])).map(|(raw, run)| raw + run).sum()
-}
-
-fn undelta(code: u8) -> u8 {
-    if code & 1 == 0 {
-        code / 2
-    } else {
-        255 - code / 2
-    }
 }
 
 /// An unpacker that is right but for one mistake.

@@ -7,7 +7,7 @@ use comparer::planes::counts;
 use comparer::unpacking::fixed;
 use comparer::unpacking::random::Random;
 use comparer::{Function, Library};
-use support::{exported, first_refused, Call, Search, Slices, RIGHT_LIBRARY};
+use support::{exported, first_refused, undelta, Call, Search, Slices, RIGHT_LIBRARY};
 
 const RIGHT: u8 = 0;
 const LAST_BYTE_CARRIED: u8 = 1;
@@ -55,14 +55,6 @@ fn counts_of<const MISTAKE: u8>(control: u8) -> (usize, usize) {
     match (MISTAKE, control & 15) {
         (RUN_ONE_IS_SHORT, 1) | (RUN_TWO_IS_SHORT, 2) => short,
         _ => counts(control),
-    }
-}
-
-fn undelta(code: u8) -> u8 {
-    if code & 1 == 0 {
-        code / 2
-    } else {
-        255 - code / 2
     }
 }
 

@@ -1,5 +1,5 @@
-//! Writes samples of IronRDP's answers inside the domain, one case a line: a file each for unpacking and packing of
-//! planes,
+//! Writes samples of IronRDP's answers inside the domain, one case a line: two files for unpacking of planes and one
+//! for packing,
 //!
 //!   WIDTH HEIGHT ROOM ANSWER SOURCE AFTER
 //!
@@ -14,6 +14,7 @@
 //!
 //! docs/TESTS.md has the format. The samples are the same in every run. `USAGE` has the command line.
 
+mod boundary_sample;
 mod encoding_sample;
 mod encodings;
 mod pack_sample;
@@ -93,8 +94,11 @@ impl Stored {
 /// A file, in the folder of the program that replays it, and what makes its lines.
 type Sample = (&'static str, fn() -> Lines);
 
-const SAMPLES: [Sample; 5] = [
+const SAMPLES: [Sample; 6] = [
     ("plane_vectors/data/plane-unpack.txt", || Stored::lines_of(Operation::Unpack, sample::keep_all)),
+    ("plane_vectors/data/plane-unpack-boundaries.txt", || {
+        Stored::lines_of(Operation::Unpack, boundary_sample::keep_all)
+    }),
     ("plane_vectors/data/plane-pack.txt", || Stored::lines_of(Operation::Pack, pack_sample::keep_all)),
     ("picture_vectors/data/picture-unpack.txt", pictures::lines),
     ("encode_vectors/data/channels-pack.txt", || encodings::lines(Entry::Channels)),

@@ -1,52 +1,59 @@
--- `decode_scanline`: an iteration of its loop is a segment; the invariant is `RowInvariant` of RowLoop.antt, whose laws prove it.
--- Assumes nothing.
+-- `decode_scanline`: an iteration of its loop is a segment; the invariant is `RowInvariant` of RowLoop.antt, whose laws prove it. Near the
+-- end of the body the rest of the row comes from `decode_last_segments`. Assumes nothing.
 use mathlib.Core.Path.{_≡_, sym, ap, _∙_}
 use mathlib.Core.List.{List}
 use Prim.Native.Nat.{ℕ, _+_, _-_, _≤_, _<_}
 use native.Mathlib.Omega.{arith}
 use borrow.Author.Needs.{needs}
-use lib.ListN.{length, drop, length-take, length-drop}
-use Rattle.rle_format.specs.Answer.{number}
+use lib.ListN.{length, drop}
+use Rattle.rle_format.specs.Answer.{number, Outcome}
 use Rattle.rle_format.specs.Segment.{readSegment}
 use Rattle.rle_decoder.specs.NextSegment.{read, segmentAnswer, nextToAnswer, rowStop}
-use Rattle.rle_decoder.proofs.Segments.{found-segment}
-use Rattle.rle_decoder.proofs.RowLoop.{RowInvariant, row-start, row-full, row-refused, row-overruns, row-step}
+use Rattle.rle_decoder.specs.Rows.{codedRow}
+use Rattle.rle_decoder.proofs.Segments.{SegmentBounds, found-segment}
+use Rattle.rle_decoder.proofs.RowLoop.{RowInvariant, leaves-at, row-start, row-full, row-refused, row-overruns, row-step}
 use Rattle.rle_decoder.proofs.row.decode_scanline.Statement.{statement}
 use Rattle.rle_decoder.proofs.row.decode_scanline.Tie as tie
 
 abbrev Inv-loop : tie.InvT-loop
-Inv-loop src from dst₀ width at₀ column₀ last₀ dst at column last = RowInvariant src dst₀ dst from width at column last
+Inv-loop src from codes₀ width near-end at₀ column₀ last₀ codes at column last = RowInvariant src codes₀ codes (codedRow src from width) from width at column last
 
 abbrev μ-loop : tie.MeasureT-loop
-μ-loop src from dst₀ width at₀ column₀ last₀ dst at column last = width - column
+μ-loop src from codes₀ width near-end at₀ column₀ last₀ codes at column last = width - column
 
 -- a segment was read: what the reader's answer says
 known : (c : tie.After-segment Inv-loop μ-loop)
     → read (c .segment .given .0 .0) (c .segment .given .0 .1 .0) (c .segment .given .0 .1 .1 .0)
-    ≡ segmentAnswer (c .before .before .before .before .loop .last) (readSegment (drop (c .before .before .before .before .loop .at) (c .before .before .before .before .before .before .before .args .src .now)))
-known c = sym (ap nextToAnswer (c .segment .given .1)) ∙ c .before .before .decompress-next-segment .ensures .0
+    ≡ segmentAnswer (c .before .before .before .before .before .before .before .before .loop .last) (readSegment (drop (c .before .before .before .before .before .before .before .before .loop .at) (c .before .before .before .before .before .before .before .before .before .before .before .before .args .src .now)))
+known c = sym (ap nextToAnswer (c .segment .given .1)) ∙ c .before .before .before .before .decompress-next-segment .ensures .0
 
 -- and so it lies within the body and is short
-record Turned (src : List ℕ) (at raw run : ℕ) : Type 0 where
-  within : at + raw < length src
-  some : 1 ≤ raw + run
-  few : raw + run ≤ 47
-  short : raw ≤ 15
+bounds : (c : tie.After-segment Inv-loop μ-loop) → SegmentBounds (c .before .before .before .before .before .before .before .before .before .before .before .before .args .src .now) (c .before .before .before .before .before .before .before .before .loop .at) (c .segment .given .0 .0) (c .segment .given .0 .1 .0)
+bounds c =
+    let l = c .before .before .before .before .before .before .before .before .loop in
+    let f = found-segment (c .before .before .before .before .before .before .before .before .before .before .before .before .args .src .now) (l .at) (l .last) (c .segment .given .0 .0) (c .segment .given .0 .1 .0) (c .segment .given .0 .1 .1 .0) (known c) in
+    record { within = f .within; some = f .some; few = c .before .before .before .before .decompress-next-segment .ensures .1 .0 _ _ _ (c .segment .given .1) }
 
-turned : (c : tie.After-segment Inv-loop μ-loop)
-    → Turned (c .before .before .before .before .before .before .before .args .src .now) (c .before .before .before .before .loop .at) (c .segment .given .0 .0) (c .segment .given .0 .1 .0)
-turned c =
-    let l = c .before .before .before .before .loop in
-    let a = c .before .before .before .before .before .before .before .args in
-    let f = found-segment (a .src .now) (l .at) (l .last) (c .segment .given .0 .0) (c .segment .given .0 .1 .0) (c .segment .given .0 .1 .1 .0) (known c) in
-    let e = c .before .before .decompress-next-segment .ensures .1 _ _ _ (c .segment .given .1) in
-    record { within = f .within; some = f .some; few = e .1; short = e .0 }
+near-end-index-requires : tie.Need-near-end-index-requires Inv-loop μ-loop
+near-end-index-requires c κs = search needs
 
 loop-holds : tie.Need-loop-holds Inv-loop μ-loop
-loop-holds c = row-start _ _ _ _
+loop-holds c = row-start _ _ _ _ (c .before .before .before .pre .0)
+
+decode-last-segments-requires : tie.Need-decode-last-segments-requires Inv-loop μ-loop
+decode-last-segments-requires c κs = let h = c .before .before .before .loop .inv in (h .low, h .most, h .within, omega (arith, h .len))
+
+same-length : tie.Need-same-length Inv-loop μ-loop
+same-length c = omega arith
+
+returns : tie.Need-returns Inv-loop μ-loop
+returns c =
+    let d = c .before .before .decode-last-segments in
+    let whole = c .before .before .before .before .before .before .loop .inv .whole in
+    (d .ensures .0 ∙ sym (ap (λ (o : Outcome). o .answer) whole), (d .ensures .1 .0 ∙ sym (ap (λ (o : Outcome). o .written) whole), d .ensures .1 .1))
 
 decompress-next-segment-requires : tie.Need-decompress-next-segment-requires Inv-loop μ-loop
-decompress-next-segment-requires c κs = search needs
+decompress-next-segment-requires c κs = (omega (arith, c .before .before .before .before .near-end-index .ensures, c .before .if1 .left), omega arith)
 
 enum-known-segment : tie.Need-enum-known-segment Inv-loop μ-loop
 enum-known-segment c = search needs
@@ -57,94 +64,77 @@ enum-told c = search needs
 row-stop-requires : tie.Need-row-stop-requires Inv-loop μ-loop
 row-stop-requires c κs = search needs
 
-same-length : tie.Need-same-length Inv-loop μ-loop
-same-length c = omega arith
-
-returns : tie.Need-returns Inv-loop μ-loop
-returns c =
-    let s = c .before .before .before .before .before .before .before .before in
-    let l = c .before .before .before .before .before .loop in
-    let t = c .before .before .before .before .loop-test .taken in
-    let d = c .before .before .before .decompress-next-segment in
-    let a = s .args in
-    let answered = ap nextToAnswer (c .before .enum-told .given .1) in
-    let r = row-refused (a .src .now) (a .dst .now) (l .dst) (a .from) (a .width) (l .at) (l .column) (l .last) (s .pre) (l .inv) t (number (c .before .enum-told .given .0 .0)) (sym answered ∙ d .ensures .0) in
-    (c .row-stop .ensures ∙ ap rowStop answered ∙ r .0, r .1)
-
-sub-if1 : tie.Need-sub-if1 Inv-loop μ-loop
-sub-if1 c = omega arith
-
-add-if1 : tie.Need-add-if1 Inv-loop μ-loop
-add-if1 c = omega (arith, turned (c .before) .few)
-
-row-stop-requires-2 : tie.Need-row-stop-requires-2 Inv-loop μ-loop
-row-stop-requires-2 c κs = search needs
-
 same-length-2 : tie.Need-same-length-2 Inv-loop μ-loop
 same-length-2 c = omega arith
 
 returns-2 : tie.Need-returns-2 Inv-loop μ-loop
 returns-2 c =
-    let k = c .before .before .before in
-    let l = k .before .before .before .before .loop in
-    let t = k .before .before .before .loop-test .taken in
-    let s = k .before .before .before .before .before .before .before in
+    let s = c .before .before .before .before .before .before .before .before .before .before .before .before .before in
+    let l = c .before .before .before .before .before .before .before .before .before .loop in
+    let d = c .before .before .before .before .before .decompress-next-segment in
     let a = s .args in
-    let r = row-overruns (a .src .now) (a .dst .now) (l .dst) (a .from) (a .width) (l .at) (l .column) (l .last) (s .pre) (l .inv) t (k .segment .given .0 .0) (k .segment .given .0 .1 .0) (k .segment .given .0 .1 .1 .0) (known k) (c .before .if1 .taken) in
-    (c .row-stop2 .ensures ∙ r .0, r .1)
-
-add-start : tie.Need-add-start Inv-loop μ-loop
-add-start c = omega (arith, turned (c .before .before) .within)
+    let told-so = ap nextToAnswer (c .before .enum-told .given .1) in
+    let r = row-refused (a .src .now) (a .codes .now) (l .codes) (codedRow (a .src .now) (a .from) (a .width)) (a .from) (a .width) (l .at) (l .column) (l .last) (omega arith) (l .inv) (c .before .before .before .before .before .before .before .before .loop-test .taken)
+    (d .last .1 .1 .1 .0) (d .ensures .1 .1) (number (c .before .enum-told .given .0 .0)) (sym told-so ∙ d .ensures .0) in
+    let stop = c .row-stop in
+    let kept = leaves-at _ _ _ _ (stop .result .column) _ (stop .ensures .1) r in
+    (stop .ensures .0 ∙ ap rowStop told-so ∙ kept .0, kept .1)
 
 add-end : tie.Need-add-end Inv-loop μ-loop
-add-end c = omega (arith, turned (c .before .before) .within)
+add-end c = omega (arith, bounds (c .before) .few)
 
-sub-write-segment : tie.Need-sub-write-segment Inv-loop μ-loop
-sub-write-segment c = omega (arith, turned (c .before .before) .within)
+add-end-2 : tie.Need-add-end-2 Inv-loop μ-loop
+add-end-2 c = omega (arith, bounds (c .before) .few)
 
-part-write-segment-start : tie.Need-part-write-segment-start Inv-loop μ-loop
-part-write-segment-start c = omega (arith, turned (c .before .before) .within)
-
-part-write-segment-end : tie.Need-part-write-segment-end Inv-loop μ-loop
-part-write-segment-end c = omega (arith, turned (c .before .before) .within)
-
-write-segment-requires : tie.Need-write-segment-requires Inv-loop μ-loop
-write-segment-requires c κs =
-    let t = turned (c .before .before .before .before) in (
-      simp (length-take, length-drop) (omega (arith, t .short)),
-      simp (length-take, length-drop) (omega (arith, t .within, c .before .before .if1 .left)),
-    )
-
-add-column : tie.Need-add-column Inv-loop μ-loop
-add-column c = omega (arith, c .before .before .before .before .before .if1 .left)
-
-add-column-2 : tie.Need-add-column-2 Inv-loop μ-loop
-add-column-2 c = omega (arith, c .before .before .before .before .before .if1 .left)
-
-loop-less : tie.Need-loop-less Inv-loop μ-loop
-loop-less c = omega (arith, turned (c .before .before .before .before .before .before .before) .some, c .before .before .before .before .before .if1 .left)
-
-loop-again : tie.Need-loop-again Inv-loop μ-loop
-loop-again c =
-    let k = c .before .before .before .before .before .before .before in
-    let l = k .before .before .before .before .loop in
-    let s = k .before .before .before .before .before .before .before in
-    let a = s .args in
-    row-step (a .src .now) (a .dst .now) (l .dst) (a .from) (a .width) (l .at) (l .column) (l .last) (s .pre) (l .inv) (k .before .before .before .loop-test .taken)
-    (k .segment .given .0 .0) (k .segment .given .0 .1 .0) (k .segment .given .0 .1 .1 .0) (known k) (c .before .before .write-segment .last .1 .1 .1 .0) (c .before .before .before .before .before .if1 .left) (c .before .before .write-segment .ensures)
-
-sub-t23 : tie.Need-sub-t23 Inv-loop μ-loop
-sub-t23 c = omega arith
+row-stop-requires-2 : tie.Need-row-stop-requires-2 Inv-loop μ-loop
+row-stop-requires-2 c κs = search needs
 
 same-length-3 : tie.Need-same-length-3 Inv-loop μ-loop
 same-length-3 c = omega arith
 
 returns-3 : tie.Need-returns-3 Inv-loop μ-loop
 returns-3 c =
-    let l = c .before .loop in
-    let s = c .before .before .before .before in
+    let k = c .before .before .before in
+    let l = k .before .before .before .before .before .before .before .before .loop in
+    let d = k .before .before .before .before .decompress-next-segment in
+    let s = k .before .before .before .before .before .before .before .before .before .before .before .before in
     let a = s .args in
-    row-full (a .src .now) (a .dst .now) (l .dst) (a .from) (a .width) (l .at) (l .column) (l .last) (s .pre) (l .inv) (c .loop-test .left)
+    let r = row-overruns (a .src .now) (a .codes .now) (l .codes) (codedRow (a .src .now) (a .from) (a .width)) (a .from) (a .width) (l .at) (l .column) (l .last) (omega (arith, s .pre .1)) (l .inv) (k .before .before .before .before .before .before .before .loop-test .taken)
+    (d .last .1 .1 .1 .0) (d .ensures .1 .1) (k .segment .given .0 .0) (k .segment .given .0 .1 .0) (k .segment .given .0 .1 .1 .0) (known k) (c .before .if2 .taken) in
+    let stop = c .row-stop2 in
+    let kept = leaves-at _ _ _ _ (stop .result .column) _ (stop .ensures .1) r in
+    (stop .ensures .0 ∙ kept .0, kept .1)
+
+add-at : tie.Need-add-at Inv-loop μ-loop
+add-at c = omega (arith, bounds (c .before .before) .within)
+
+add-at-2 : tie.Need-add-at-2 Inv-loop μ-loop
+add-at-2 c = omega (arith, bounds (c .before .before) .within)
+
+loop-less : tie.Need-loop-less Inv-loop μ-loop
+loop-less c = omega (arith, bounds (c .before .before) .some, c .if2 .left)
+
+loop-again : tie.Need-loop-again Inv-loop μ-loop
+loop-again c =
+    let k = c .before .before in
+    let l = k .before .before .before .before .before .before .before .before .loop in
+    let d = k .before .before .before .before .decompress-next-segment in
+    let s = k .before .before .before .before .before .before .before .before .before .before .before .before in
+    let a = s .args in
+    row-step (a .src .now) (a .codes .now) (l .codes) (codedRow (a .src .now) (a .from) (a .width)) (a .from) (a .width) (l .at) (l .column) (l .last) (omega (arith, s .pre .1)) (l .inv) (k .before .before .before .before .before .before .before .loop-test .taken)
+    (d .last .1 .1 .1 .0) (d .ensures .1 .1) (k .segment .given .0 .0) (k .segment .given .0 .1 .0) (k .segment .given .0 .1 .1 .0) (known k) (omega (arith, d .kept .1 .1 .1 .0)) (c .if2 .left)
+
+sub-t20 : tie.Need-sub-t20 Inv-loop μ-loop
+sub-t20 c = omega arith
+
+same-length-4 : tie.Need-same-length-4 Inv-loop μ-loop
+same-length-4 c = omega arith
+
+returns-4 : tie.Need-returns-4 Inv-loop μ-loop
+returns-4 c =
+    let l = c .before .loop in
+    let a = c .before .before .before .before .before .args in
+    row-full (a .src .now) (a .codes .now) (l .codes) (codedRow (a .src .now) (a .from) (a .width)) (a .from) (a .width) (l .at) (l .column) (l .last) (omega arith) (l .inv) (c .loop-test .left)
 
 pub decode-scanline-spec : {M : Type 1} → statement M
 decode-scanline-spec =
@@ -152,28 +142,26 @@ decode-scanline-spec =
     (tie.spec
     Inv-loop
     μ-loop
+    near-end-index-requires
     loop-holds
+    decode-last-segments-requires
+    same-length
+    returns
     decompress-next-segment-requires
     enum-known-segment
     enum-told
     row-stop-requires
-    same-length
-    returns
-    sub-if1
-    add-if1
-    row-stop-requires-2
     same-length-2
     returns-2
-    add-start
     add-end
-    sub-write-segment
-    part-write-segment-start
-    part-write-segment-end
-    write-segment-requires
-    add-column
-    add-column-2
+    add-end-2
+    row-stop-requires-2
+    same-length-3
+    returns-3
+    add-at
+    add-at-2
     loop-less
     loop-again
-    sub-t23
-    same-length-3
-    returns-3)
+    sub-t20
+    same-length-4
+    returns-4)

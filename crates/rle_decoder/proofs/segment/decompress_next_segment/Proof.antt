@@ -1,66 +1,164 @@
--- `decompress_next_segment`: each answer from the tests that led to it. Assumes nothing.
-use Rattle.rle_format.proofs.Segment.{control-bounds, read-at-end, read-zero-control}
-use Rattle.rle_decoder.proofs.Segments.{refused-not-read, answer-read, answer-missing-raw}
-use Rattle.rle_decoder.specs.NextSegment.{segmentAnswer, nextToAnswer}
-use mathlib.Core.Path.{_≡_, sym, ap}
-use Prim.Native.Nat.{_<_}
+-- `decompress_next_segment`: each kind of segment from the test that led to it. Assumes nothing.
+use mathlib.Core.Path.{_≡_, refl, sym, ap, _∙_}
+use mathlib.Core.List.{_++_, append-nil}
+use Prim.Native.Nat.{ℕ, _+_, _*_, _≤_}
 use native.Mathlib.Omega.{arith}
-use lib.ListN.{getD}
+use lib.ListN.{take, drop, replicate, getD}
+use Rattle.rle_format.specs.Segment.{rawCount, runLength}
+use Rattle.rle_format.proofs.Segment.{control-plain, read-zero-control, lastOr-raw}
+use Rattle.rle_decoder.specs.Appended.{Appended}
+use Rattle.rle_decoder.specs.NextSegment.{nextToAnswer}
+use Rattle.rle_decoder.proofs.Appended.{appended-copy, appended-fill}
+use Rattle.rle_decoder.proofs.Segments.{refused-not-read, says-long, answers-none, answers-read}
 use borrow.Author.Needs.{needs}
 use Rattle.rle_decoder.proofs.segment.decompress_next_segment.Statement.{statement}
 use Rattle.rle_decoder.proofs.segment.decompress_next_segment.Tie as tie
 
-returns : tie.Need-returns
-returns c = (sym (ap (segmentAnswer _) (read-at-end _ _ (c .if1 .taken))), λ raw run next e. refused-not-read (ap nextToAnswer e))
+-- no long run: the halves are what the control byte says
+plain : (w : tie.After-wrapping-sub-usize) → 2 ≤ w .wrapping-sub-usize .result
+    → (w .before .high-half .result ≡ rawCount (getD (w .before .before .before .before .before .before .args .src .now) (w .before .before .before .before .before .before .args .at) 0))
+    × (w .before .before .low-half .result ≡ runLength (getD (w .before .before .before .before .before .before .args .src .now) (w .before .before .before .before .before .before .args .at) 0))
+plain w h =
+    let a = w .before .before .before .before .before .before .args in
+    let b = getD (a .src .now) (a .at) 0 in
+    let low = w .before .before .low-half in
+    let s = control-plain b (omega (arith, low .ensures, w .wrapping-sub-usize .ensures)) (omega (arith, low .ensures, w .wrapping-sub-usize .ensures)) in
+    (w .before .high-half .ensures .0 ∙ s .0, low .ensures .0 ∙ s .1)
 
 shared-slice-read-control : tie.Need-shared-slice-read-control
 shared-slice-read-control c = search needs
 
+low-half-requires : tie.Need-low-half-requires
+low-half-requires c κs = search needs
+
+high-half-requires : tie.Need-high-half-requires
+high-half-requires c κs = search needs
+
+wrapping-sub-usize-requires : tie.Need-wrapping-sub-usize-requires
+wrapping-sub-usize-requires c κs = search needs
+
+fill-run-requires : tie.Need-fill-run-requires
+fill-run-requires c κs = search needs
+
+mul-t17 : tie.Need-mul-t17
+mul-t17 c = search needs
+
+add-t18 : tie.Need-add-t18
+add-t18 c = search needs
+
+same-length : tie.Need-same-length
+same-length c = search needs
+
+-- a long run
+returns : tie.Need-returns
+returns c =
+    let w = c .before .before .before .before .before in
+    let s = w .before .before .before .before .before .before in
+    let a = s .args in
+    let b = getD (a .src .now) (a .at) 0 in
+    let low = w .before .before .low-half in
+    let high = w .before .high-half in
+    let f = c .before .before .fill-run in
+    let far = s .pre .0 in
+    let run : ℕ = low .result * 16 + high .result in
+    let l = says-long b (omega (arith, low .ensures, w .wrapping-sub-usize .ensures, c .before .before .before .before .if1 .taken)) (omega (arith, low .ensures, w .wrapping-sub-usize .ensures, c .before .before .before .before .if1 .taken)) in
+    let is : run ≡ runLength b = (λ i. low .ensures .0 i * 16 + high .ensures .0 i) ∙ l .1 in
+    let few : run ≤ 47 = omega (arith, low .ensures, high .ensures, w .wrapping-sub-usize .ensures, c .before .before .before .before .if1 .taken) in
+    let some : b ≡ 0 → ⊥ = omega (arith, low .ensures, w .wrapping-sub-usize .ensures, c .before .before .before .before .if1 .taken) in
+    let filled = appended-fill (a .codes .now) (f .last .0) (a .column) 48 run (a .last) (omega arith) (omega arith) (f .ensures) in
+    let r = answers-read (a .src .now) (a .codes .now) (f .last .0) (a .at) (a .last) (a .column) 0 run (a .last) (omega arith) some (l .0) is (omega arith) refl filled in
+    (r .0, (λ raw′ run′ next q. let p : 0 ≡ raw′ = cc in let n : run ≡ run′ = cc in omega arith, r .1))
+
+add-copy-16 : tie.Need-add-copy-16
+add-copy-16 c = search needs
+
+copy-16-requires : tie.Need-copy-16-requires
+copy-16-requires c κs = search needs
+
+add-t20 : tie.Need-add-t20
+add-t20 c = search needs
+
+shared-slice-read-t24 : tie.Need-shared-slice-read-t24
+shared-slice-read-t24 c = search needs
+
+same-length-2 : tie.Need-same-length-2
+same-length-2 c = search needs
+
+-- 15 raw bytes
 returns-2 : tie.Need-returns-2
-returns-2 c = (sym (ap (segmentAnswer _) (read-zero-control _ _ (c .before .before .if1 .left) (c .if2 .taken))), λ raw run next e. refused-not-read (ap nextToAnswer e))
+returns-2 c =
+    let s = c .before .before .before .before .before .before .before .before .before .before .before .before .before in
+    let a = s .args in
+    let b = getD (a .src .now) (a .at) 0 in
+    let k = c .before .before .before .copy-16 in
+    let is : b ≡ 240 = c .before .before .before .before .before .if2 .taken in
+    let far = s .pre .0 in
+    let says = control-plain b (omega arith) (omega arith) in
+    let copied = appended-copy (a .codes .now) (k .last .1 .1 .0) (a .src .now) (a .column) (a .at + 1) 15 (omega arith) (omega arith) (omega arith) (k .ensures) in
+    let held : Appended (a .codes .now) (k .last .1 .1 .0) (a .column) (take 15 (drop (a .at + 1) (a .src .now)) ++ replicate 0 (getD (a .src .now) (a .at + 15) 0)) =
+    rw (append-nil (take 15 (drop (a .at + 1) (a .src .now)))) copied in
+    let r = answers-read (a .src .now) (a .codes .now) (k .last .1 .1 .0) (a .at) (a .last) (a .column) 15 0 (getD (a .src .now) (a .at + 15) 0) (omega arith) (omega arith)
+    (omega (arith, says .0)) (omega (arith, says .1)) (omega arith) (sym (lastOr-raw (a .src .now) (a .at) 15 (a .last) (omega arith) (omega arith))) held in
+    (r .0, (λ raw′ run′ next q. let p : 15 ≡ raw′ = cc in let n : 0 ≡ run′ = cc in omega arith, r .1))
 
-control-fields-requires : tie.Need-control-fields-requires
-control-fields-requires c κs = search needs
-
-sub-if3 : tie.Need-sub-if3
-sub-if3 c = search needs
-
-sub-if3-2 : tie.Need-sub-if3-2
-sub-if3-2 c = search needs
-
+-- control byte 0
 returns-3 : tie.Need-returns-3
 returns-3 c =
-    let f = c .before in
-    let a = f .before .before .before .before .before .args in
-    (answer-missing-raw (a .src .now) (a .at) (a .last) (f .control-fields .result .raw) (f .before .before .before .if1 .left) (f .before .if2 .left) (f .control-fields .ensures .0) (c .if3 .taken), λ raw run next e. refused-not-read (ap nextToAnswer e))
+    let s = c .before .before .before .before .before .before .before .before .before in
+    let a = s .args in
+    let r = answers-none (a .src .now) (a .codes .now) (a .at) (a .last) (a .column) 8 (read-zero-control (a .src .now) (a .at) (omega (arith, s .pre .0)) (c .if3 .taken)) in
+    (r .0, (λ raw run next e. refused-not-read (ap nextToAnswer e), r .1))
 
 last-decoded-byte-requires : tie.Need-last-decoded-byte-requires
 last-decoded-byte-requires c κs = search needs
 
+add-write-segment-wide : tie.Need-add-write-segment-wide
+add-write-segment-wide c = search needs
+
+write-segment-wide-requires : tie.Need-write-segment-wide-requires
+write-segment-wide-requires c κs = search needs
+
+same-length-3 : tie.Need-same-length-3
+same-length-3 c = search needs
+
+-- every other segment
 returns-4 : tie.Need-returns-4
 returns-4 c =
-    let f = c .before .before in
-    let a = f .before .before .before .before .before .args in
-    let e = f .control-fields .ensures in
-    let s = control-bounds (getD (a .src .now) (a .at) 0) in
-    let byte : getD (a .src .now) (a .at) 0 < 256 = omega (arith, f .before .before .shared-slice-known2 .given (a .at)) in
-    let few = s .few byte in
-    let short = s .raw byte in (
-      answer-read (a .src .now) (a .at) (a .last) (f .control-fields .result .raw) (f .control-fields .result .run) (c .last-decoded-byte .result)
-          (f .before .before .before .if1 .left) (f .before .if2 .left) (e .0) (e .1) (c .before .if3 .left) (c .last-decoded-byte .ensures),
-      λ raw run next q. let p : f .control-fields .result .raw ≡ raw = cc in let n : f .control-fields .result .run ≡ run = cc in (omega arith, omega arith),
-    )
+    let w = c .before .before .before .before .before .before .before .before in
+    let s = w .before .before .before .before .before .before in
+    let a = s .args in
+    let p = plain w (c .before .before .before .before .before .before .before .if1 .left) in
+    let k = c .before .before .write-segment-wide in
+    let n = c .before .before .before .before .last-decoded-byte in
+    let far = s .pre .0 in
+    let raw : ℕ = w .before .high-half .result in
+    let run : ℕ = w .before .before .low-half .result in
+    let r = answers-read (a .src .now) (a .codes .now) (k .last .1 .1 .1 .1 .1 .0) (a .at) (a .last) (a .column) raw run (n .result) (omega arith) (c .before .before .before .before .before .if3 .left)
+    (p .0) (p .1) (omega (arith, w .before .high-half .ensures)) (n .ensures) (k .ensures) in
+    (r .0, (λ raw′ run′ next q. let e : raw ≡ raw′ = cc in let f : run ≡ run′ = cc in omega (arith, w .before .high-half .ensures, w .before .before .low-half .ensures), r .1))
 
 pub decompress-next-segment-spec : {M : Type 1} → statement M
 decompress-next-segment-spec =
     tie.close
     (tie.spec
-    returns
     shared-slice-read-control
+    low-half-requires
+    high-half-requires
+    wrapping-sub-usize-requires
+    fill-run-requires
+    mul-t17
+    add-t18
+    same-length
+    returns
+    add-copy-16
+    copy-16-requires
+    add-t20
+    shared-slice-read-t24
+    same-length-2
     returns-2
-    control-fields-requires
-    sub-if3
-    sub-if3-2
     returns-3
     last-decoded-byte-requires
+    add-write-segment-wide
+    write-segment-wide-requires
+    same-length-3
     returns-4)

@@ -1,4 +1,4 @@
-//! The part that is the same in every run: all short bodies, all destination lengths, the refused sides.
+//! The part that is the same in every run: all short bodies, all destination lengths, rows of boundary lengths, the refused sides.
 
 use crate::case::{Case, BOUNDARY_SIDES, MAX_SIDE};
 use crate::check::{Comparer, Outcome};
@@ -6,6 +6,7 @@ use crate::planes::{self, Earlier, PlaneKind};
 use crate::rng::Rng;
 use crate::strings::each_string;
 use crate::tally::Kind;
+use crate::unpacking::boundary;
 
 /// The widths of short bodies.
 const SHORT_WIDTHS: [usize; 25] =
@@ -26,6 +27,7 @@ pub fn run(comparer: &mut Comparer) -> Outcome {
     bodies_over(comparer, earlier, &ALPHABET, 4, &[1, 3, 4, 17], 2)?;
     bodies_over(comparer, earlier, &FEW, 5, &[1, 2, 3, 4, 5, 17, 20], 3)?;
     destination_lengths(comparer, earlier)?;
+    boundary::run(comparer)?;
     largest_planes(comparer, earlier)
 }
 

@@ -8,6 +8,8 @@ use crate::tally::Kind;
 
 /// Of packings up to this length every prefix is unpacked, of longer ones some.
 const EVERY_LENGTH: usize = 160;
+/// Half of a body's truncations lie within so many bytes of its end: a control byte, 15 raw bytes and some more.
+const NEAR_THE_END: usize = 20;
 
 /// Random cases from one seed.
 pub struct Random {
@@ -105,7 +107,8 @@ impl Random {
         Ok(())
     }
 
-    /// A body made segment by segment, mostly right; also truncated. No encoder here writes such bodies.
+    /// A body made segment by segment, mostly right; also with bytes following, and truncated, half of the time near its end. No
+    /// encoder here writes such bodies.
     fn made(&mut self, comparer: &mut Comparer, opening_runs: bool) -> Outcome {
         let kind = if opening_runs { Kind::OpeningRuns } else { Kind::Segments };
         let (width, height) = planes::sides(&mut self.rng);
@@ -113,8 +116,11 @@ impl Random {
             let making = Making { opening_runs, wrong_once_in };
             let body = planes::made_body(&mut self.rng, making, width, height);
             self.compare(comparer, kind, &body, (width, height))?;
-            for _ in 0..6 {
-                let len = self.rng.within(0, body.len());
+            let more = self.rng.within(1, 40);
+            let following = [&body[..], &self.rng.bytes(more)].concat();
+            self.compare(comparer, kind, &following, (width, height))?;
+            for shortest in [0, body.len().saturating_sub(NEAR_THE_END)].repeat(3) {
+                let len = self.rng.within(shortest, body.len());
                 self.compare(comparer, kind, &body[..len], (width, height))?;
             }
         }

@@ -108,6 +108,15 @@ pub const RIGHT_LIBRARY: Library = Library {
     encoders: encoder::encoders::<encoder::Right>(),
 };
 
+/// The difference from the sample above, of a delta code.
+pub fn undelta(code: u8) -> u8 {
+    if code & 1 == 0 {
+        code / 2
+    } else {
+        255 - code / 2
+    }
+}
+
 /// The order in which the refusals at entry are tested: zero, large, short.
 pub fn first_refused(tests: [(bool, i64); 3], order: [usize; 3]) -> i64 {
     order.iter().map(|&at| tests[at]).find(|test| test.0).map_or(0, |test| test.1)

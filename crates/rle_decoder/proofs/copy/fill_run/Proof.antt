@@ -5,23 +5,23 @@ use native.Mathlib.Omega.{arith}
 use lib.ListN.{length, replicate, length-set}
 use Rattle.rle_format.specs.Slice.{writeAt}
 use Rattle.rle_format.proofs.Slice.{writeAt-nil, fill-step}
-use Rattle.rle_decoder.proofs.row.fill_run.Statement.{statement}
-use Rattle.rle_decoder.proofs.row.fill_run.Tie as tie
+use Rattle.rle_decoder.proofs.copy.fill_run.Statement.{statement}
+use Rattle.rle_decoder.proofs.copy.fill_run.Tie as tie
 
 abbrev Inv-loop : tie.InvT-loop
-Inv-loop dst₀ at run value i₀ dst i = (i ≤ run) × ((length dst ≡ length dst₀) × (dst ≡ writeAt dst₀ at (replicate i value)))
+Inv-loop codes₀ at run value i₀ codes i = (i ≤ run) × ((length codes ≡ length codes₀) × (codes ≡ writeAt codes₀ at (replicate i value)))
 
 abbrev μ-loop : tie.MeasureT-loop
-μ-loop dst₀ at run value i₀ dst i = run - i
+μ-loop codes₀ at run value i₀ codes i = run - i
 
 loop-holds : tie.Need-loop-holds Inv-loop μ-loop
 loop-holds c = (omega arith, (refl, sym (writeAt-nil _ _)))
 
-add-dst : tie.Need-add-dst Inv-loop μ-loop
-add-dst c = omega arith
+add-codes : tie.Need-add-codes Inv-loop μ-loop
+add-codes c = omega arith
 
-slice-write-dst : tie.Need-slice-write-dst Inv-loop μ-loop
-slice-write-dst c = omega arith
+slice-write-codes : tie.Need-slice-write-codes Inv-loop μ-loop
+slice-write-codes c = omega arith
 
 add-i : tie.Need-add-i Inv-loop μ-loop
 add-i c = omega arith
@@ -33,7 +33,7 @@ loop-again : tie.Need-loop-again Inv-loop μ-loop
 loop-again c =
     let l = c .before .loop in
     let a = c .before .before .args in
-    (omega arith, (simp length-set (omega arith), fill-step (a .dst .now) (l .dst) (a .at) (a .value) (l .i) (l .inv .1 .1) (omega arith)))
+    (omega arith, (simp length-set (omega arith), fill-step (a .codes .now) (l .codes) (a .at) (a .value) (l .i) (l .inv .1 .1) (omega arith)))
 
 same-length : tie.Need-same-length Inv-loop μ-loop
 same-length c = omega arith
@@ -50,8 +50,8 @@ fill-run-spec =
     Inv-loop
     μ-loop
     loop-holds
-    add-dst
-    slice-write-dst
+    add-codes
+    slice-write-codes
     add-i
     loop-less
     loop-again

@@ -1,4 +1,4 @@
--- `copy_8`: the bytes go to the array, and from there to the slice. Assumes nothing.
+-- `copy_16`: the bytes go to the array, and from there to the slice. Assumes nothing.
 use mathlib.Core.Path.{_≡_, refl, ap, _∙_}
 use mathlib.Core.List.{append-nil}
 use Prim.Native.Nat.{ℕ, _+_, _-_}
@@ -7,8 +7,8 @@ use lib.ListN.{length, take, drop, replicate}
 use lib.Seq.{take-all}
 use Rattle.rle_format.proofs.Slice.{copied-through-array}
 use borrow.Author.Needs.{needs}
-use Rattle.rle_decoder.proofs.copy.copy_8.Statement.{statement}
-use Rattle.rle_decoder.proofs.copy.copy_8.Tie as tie
+use Rattle.rle_decoder.proofs.copy.copy_16.Statement.{statement}
+use Rattle.rle_decoder.proofs.copy.copy_16.Tie as tie
 
 add-copy : tie.Need-add-copy
 add-copy c = search needs
@@ -25,11 +25,11 @@ part-copy-end c = search needs
 sub-copy-2 : tie.Need-sub-copy-2
 sub-copy-2 c = search needs
 
-part-eight-start : tie.Need-part-eight-start
-part-eight-start c = search needs
+part-sixteen-start : tie.Need-part-sixteen-start
+part-sixteen-start c = search needs
 
-part-eight-end : tie.Need-part-eight-end
-part-eight-end c = search needs
+part-sixteen-end : tie.Need-part-sixteen-end
+part-sixteen-end c = search needs
 
 copy-requires : tie.Need-copy-requires
 copy-requires c κs = search needs
@@ -63,13 +63,13 @@ returns c =
     let a = c .before .before .before .before .before .before .before .before .before .before .before .before .args in
     let one = c .before .before .before .before .before .before .before .copy in
     let two = c .before .before .copy2 in
-    let n : a .from + 8 - a .from ≡ 8 = omega arith in
+    let n : a .from + 16 - a .from ≡ 16 = omega arith in
     let got = one .last .1 .0 in
-    copied-through-array (a .dst .now) (a .src .now) _ _ got (two .last .1 .0) (replicate 8 0) (a .from) (a .at) 8 (omega arith) refl (ap (λ (k : ℕ). take k (drop (a .from) (a .src .now))) n)
-    (one .ensures .1) (ap (take 8) (append-nil got) ∙ take-all 8 got (omega (arith, one .kept .1 .0))) (two .ensures .1)
+    copied-through-array (a .codes .now) (a .src .now) _ _ got (two .last .1 .0) (replicate 16 0) (a .from) (a .at) 16 (omega arith) refl (ap (λ (k : ℕ). take k (drop (a .from) (a .src .now))) n)
+    (one .ensures .1) (ap (take 16) (append-nil got) ∙ take-all 16 got (omega (arith, one .kept .1 .0))) (two .ensures .1)
 
-pub copy-8-spec : {M : Type 1} → statement M
-copy-8-spec =
+pub copy-16-spec : {M : Type 1} → statement M
+copy-16-spec =
     tie.close
     (tie.spec
     add-copy
@@ -77,8 +77,8 @@ copy-8-spec =
     part-copy-start
     part-copy-end
     sub-copy-2
-    part-eight-start
-    part-eight-end
+    part-sixteen-start
+    part-sixteen-end
     copy-requires
     sub-copy-3
     part-copy-start-2
