@@ -284,7 +284,7 @@ fn a_short_run_longer_than_its_step() {
 
 #[test]
 fn the_run_written_before_the_raw_bytes() {
-    is_found(exported::<Unpacker<RUN_BEFORE_RAW>>, "pu 3 1 030100*15 EEEEEE");
+    is_found(exported::<Unpacker<RUN_BEFORE_RAW>>, "pu 3 1 0300000100*13 EEEEEE");
 }
 
 #[test]
