@@ -5,7 +5,7 @@ use mathlib.Core.Logic.{⊎-elim}
 use Prim.Native.Nat.{ℕ, _+_, _-_, _*_, _/_, _%_, _≤_, _<_}
 use native.Mathlib.Omega.{arith}
 use lib.ListN.{length, take, drop, getD, replicate, length-drop}
-use lib.Seq.{length-take-le, drop-drop}
+use lib.Seq.{length-take-le}
 use Rattle.rle_format.specs.Segment.{Segment, lastOr, lastByteAfter, rawCount, runLength, SegmentRead, segment, refused-segment, readSegment}
 use Rattle.rle_format.proofs.Cases.{eq-or-ne}
 use Rattle.rle_format.proofs.Segment.{segment-facts, control-run-1, control-run-2, read-complete}
@@ -52,15 +52,8 @@ pub record FoundSegment (s : List ℕ) (at before raw run last : ℕ) : Type 0 w
   pub raws : length (it .raw) ≡ raw
   pub runs : it .run ≡ run
   pub lasts : lastByteAfter before it ≡ last
-  pub raw-is : it .raw ≡ take raw (drop (at + 1) s)
   pub within : at + raw < length s
   pub some : 1 ≤ raw + run
-
--- what the loops need of it: it lies within the body, has a value, and is short
-pub record SegmentBounds (s : List ℕ) (at raw run : ℕ) : Type 0 where
-  pub within : at + raw < length s
-  pub some : 1 ≤ raw + run
-  pub few : raw + run ≤ 47
 
 pub found-segment : (s : List ℕ) (at before raw run last : ℕ) → read raw run last ≡ segmentAnswer before (readSegment (drop at s)) → FoundSegment s at before raw run last
 found-segment s at before raw run last e = go (readSegment (drop at s)) refl e
@@ -78,7 +71,6 @@ found-segment s at before raw run last e = go (readSegment (drop at s)) refl e
           raws = er;
           runs = en;
           lasts = cc;
-          raw-is = k .raw-is ∙ (λ i. take (er i) (drop-drop 1 at s i));
           within = omega (arith, k .fits);
           some = omega (arith, k .some);
         }

@@ -29,26 +29,23 @@ module _ (c : ℕ) where
     unfolding rawCount runLength
     control-plain not-two = rw (ne-eqb (c % 16) 1 not-one, ne-eqb (c % 16) 2 not-two) (refl, refl)
 
--- a control byte that is not 0 gives at least one value and at most 47, of which at most 15 are raw bytes
+-- a control byte that is not 0 gives at least one value, and at most 47
 pub record ControlBounds (c : ℕ) : Type 0 where
   pub some : (c ≡ 0 → ⊥) → 1 ≤ rawCount c + runLength c
   pub few : c < 256 → rawCount c + runLength c ≤ 47
-  pub raw : c < 256 → rawCount c ≤ 15
 
 pub control-bounds : (c : ℕ) → ControlBounds c
 control-bounds c =
-    ⊎-elim (λ (one : c % 16 ≡ 1). let s = control-run-1 c one in record { some = λ z. omega arith; few = λ h. omega arith; raw = λ h. omega arith })
+    ⊎-elim (λ (one : c % 16 ≡ 1). let s = control-run-1 c one in record { some = λ z. omega arith; few = λ h. omega arith })
     (λ (not-one : c % 16 ≡ 1 → ⊥).
-    ⊎-elim (λ (two : c % 16 ≡ 2). let s = control-run-2 c not-one two in record { some = λ z. omega arith; few = λ h. omega arith; raw = λ h. omega arith })
-    (λ (not-two : c % 16 ≡ 2 → ⊥). let s = control-plain c not-one not-two in record { some = λ z. omega arith; few = λ h. omega arith; raw = λ h. omega arith })
+    ⊎-elim (λ (two : c % 16 ≡ 2). let s = control-run-2 c not-one two in record { some = λ z. omega arith; few = λ h. omega arith })
+    (λ (not-two : c % 16 ≡ 2 → ⊥). let s = control-plain c not-one not-two in record { some = λ z. omega arith; few = λ h. omega arith })
     (eq-or-ne (c % 16) 2))
     (eq-or-ne (c % 16) 1)
 
--- what is known of a segment that was read: it lies within the body, its raw bytes follow the control byte, and it
--- has at least one value
+-- what is known of a segment that was read: it lies within the body, and it has at least one value
 pub record SegmentFacts (body : List ℕ) (s : Segment) : Type 0 where
   pub fits : segmentSize s ≤ length body
-  pub raw-is : s .raw ≡ take (length (s .raw)) (drop 1 body)
   pub some : 1 ≤ valueCount s
 
 -- a refusal is no segment
@@ -74,7 +71,6 @@ segment-facts (c ∷ rest) s e = go (eqb c 0) (ltb (length rest) (rawCount c)) r
         let n : length (take (rawCount c) rest) ≡ rawCount c = length-take-le (rawCount c) rest there in
         let of-it : SegmentFacts (c ∷ rest) it = record {
           fits = omega arith;
-          raw-is = ap (λ (k : ℕ). take k rest) (sym n);
           some = omega (arith, control-bounds c .some (eqb-false c 0 ez));
         } in
         rw same at of-it

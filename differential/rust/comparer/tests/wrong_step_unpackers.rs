@@ -6,9 +6,8 @@ mod support;
 use comparer::case::MAX_SIDE;
 use comparer::planes::counts;
 use comparer::unpacking::boundary;
-use comparer::unpacking::random::Random;
-use comparer::{Function, Library};
-use support::{exported, first_refused, undelta, Call, Search, Slices, RIGHT_LIBRARY};
+use comparer::Function;
+use support::{exported, first_refused, undelta, unpacking_search, with_unpacker, Call, Search, Slices};
 
 const RIGHT: u8 = 0;
 const REFUSED_ROW_AND_A_STEP: u8 = 1;
@@ -209,27 +208,15 @@ impl<const MISTAKE: u8> Call for Unpacker<MISTAKE> {
 }
 
 /// The fixed cases are those of boundary lengths alone: shorter bodies have no place for a step.
-const SEARCH: Search = Search {
-    fixed: boundary::run,
-    random: |seed| {
-        let mut random = Random::new(seed);
-        Box::new(move |comparer| random.round(comparer))
-    },
-    rounds: 2000,
-    alone: 20_000,
-};
-
-fn with(unpack: Function) -> Library {
-    Library { unpack, ..RIGHT_LIBRARY }
-}
+const SEARCH: Search = unpacking_search(boundary::run);
 
 fn is_found(unpacker: Function, smallest: &str) {
-    SEARCH.finds(with(unpacker), smallest);
+    SEARCH.finds(with_unpacker(unpacker), smallest);
 }
 
 #[test]
 fn a_right_unpacker_has_no_difference() {
-    SEARCH.finds_nothing(with(exported::<Unpacker<RIGHT>>));
+    SEARCH.finds_nothing(with_unpacker(exported::<Unpacker<RIGHT>>));
 }
 
 #[test]

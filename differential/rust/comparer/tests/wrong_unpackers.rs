@@ -5,9 +5,8 @@ mod support;
 use comparer::case::MAX_SIDE;
 use comparer::planes::counts;
 use comparer::unpacking::fixed;
-use comparer::unpacking::random::Random;
-use comparer::{Function, Library};
-use support::{exported, first_refused, undelta, Call, Search, Slices, RIGHT_LIBRARY};
+use comparer::Function;
+use support::{exported, first_refused, undelta, unpacking_search, with_unpacker, Call, Search, Slices};
 
 const RIGHT: u8 = 0;
 const LAST_BYTE_CARRIED: u8 = 1;
@@ -173,28 +172,15 @@ fn finish<const MISTAKE: u8>(slices: &Slices, samples: usize, read: usize) -> i6
     read as i64
 }
 
-const SEARCH: Search = Search {
-    fixed: fixed::run,
-    random: |seed| {
-        let mut random = Random::new(seed);
-        Box::new(move |comparer| random.round(comparer))
-    },
-    rounds: 2000,
-    alone: 20_000,
-};
-
-/// The unpacker beside a right packer.
-fn with(unpack: Function) -> Library {
-    Library { unpack, ..RIGHT_LIBRARY }
-}
+const SEARCH: Search = unpacking_search(fixed::run);
 
 fn is_found(unpacker: Function, smallest: &str) {
-    SEARCH.finds(with(unpacker), smallest);
+    SEARCH.finds(with_unpacker(unpacker), smallest);
 }
 
 #[test]
 fn a_right_unpacker_has_no_difference() {
-    SEARCH.finds_nothing(with(exported::<Unpacker<RIGHT>>));
+    SEARCH.finds_nothing(with_unpacker(exported::<Unpacker<RIGHT>>));
 }
 
 #[test]

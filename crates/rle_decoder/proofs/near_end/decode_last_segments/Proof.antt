@@ -1,16 +1,15 @@
 -- `decode_last_segments`: an iteration of its loop is a segment; the invariant is `RowInvariant` of RowLoop.antt, whose laws prove it.
 -- Assumes nothing.
 use mathlib.Core.Path.{_≡_, sym, ap, _∙_}
-use mathlib.Core.List.{List}
-use Prim.Native.Nat.{ℕ, _+_, _-_, _≤_, _<_}
+use Prim.Native.Nat.{_+_, _-_, _≤_}
 use native.Mathlib.Omega.{arith}
 use borrow.Author.Needs.{needs}
-use lib.ListN.{length, drop}
+use lib.ListN.{drop}
 use Rattle.rle_format.specs.Answer.{number}
 use Rattle.rle_format.specs.Segment.{readSegment}
 use Rattle.rle_decoder.specs.NextSegment.{read, segmentAnswer, nextToAnswer, rowStop}
 use Rattle.rle_decoder.specs.Rows.{rowContinued}
-use Rattle.rle_decoder.proofs.Segments.{SegmentBounds, found-segment}
+use Rattle.rle_decoder.proofs.Segments.{FoundSegment, found-segment}
 use Rattle.rle_decoder.proofs.RowLoop.{RowInvariant, leaves-at, row-continues, row-full, row-refused, row-overruns, row-step}
 use Rattle.rle_decoder.proofs.near_end.decode_last_segments.Statement.{statement}
 use Rattle.rle_decoder.proofs.near_end.decode_last_segments.Tie as tie
@@ -28,12 +27,12 @@ known : (c : tie.After-segment Inv-loop μ-loop)
     ≡ segmentAnswer (c .before .before .before .before .before .before .before .loop .last) (readSegment (drop (c .before .before .before .before .before .before .before .loop .at) (c .before .before .before .before .before .before .before .before .before .before .args .src .now)))
 known c = sym (ap nextToAnswer (c .segment .given .1)) ∙ c .before .before .before .before .decompress-last-segment .ensures .0
 
--- and so it lies within the body and is short
-bounds : (c : tie.After-segment Inv-loop μ-loop) → SegmentBounds (c .before .before .before .before .before .before .before .before .before .before .args .src .now) (c .before .before .before .before .before .before .before .loop .at) (c .segment .given .0 .0) (c .segment .given .0 .1 .0)
-bounds c =
-    let l = c .before .before .before .before .before .before .before .loop in
-    let f = found-segment (c .before .before .before .before .before .before .before .before .before .before .args .src .now) (l .at) (l .last) (c .segment .given .0 .0) (c .segment .given .0 .1 .0) (c .segment .given .0 .1 .1 .0) (known c) in
-    record { within = f .within; some = f .some; few = c .before .before .before .before .decompress-last-segment .ensures .1 .0 _ _ _ (c .segment .given .1) }
+found : (c : tie.After-segment Inv-loop μ-loop) → FoundSegment (c .before .before .before .before .before .before .before .before .before .before .args .src .now) (c .before .before .before .before .before .before .before .loop .at) (c .before .before .before .before .before .before .before .loop .last) (c .segment .given .0 .0) (c .segment .given .0 .1 .0) (c .segment .given .0 .1 .1 .0)
+found c = found-segment _ _ _ _ _ _ (known c)
+
+-- and it is short
+few : (c : tie.After-segment Inv-loop μ-loop) → c .segment .given .0 .0 + c .segment .given .0 .1 .0 ≤ 47
+few c = c .before .before .before .before .decompress-last-segment .ensures .1 .0 _ _ _ (c .segment .given .1)
 
 loop-holds : tie.Need-loop-holds Inv-loop μ-loop
 loop-holds c = let s = c .before .before in row-continues _ _ _ _ _ _ _ (s .pre .0) (s .pre .1) (s .pre .2)
@@ -67,10 +66,10 @@ returns c =
     (stop .ensures .0 ∙ ap rowStop told-so ∙ kept .0, kept .1)
 
 add-end : tie.Need-add-end Inv-loop μ-loop
-add-end c = omega (arith, bounds (c .before) .few)
+add-end c = omega (arith, few (c .before))
 
 add-end-2 : tie.Need-add-end-2 Inv-loop μ-loop
-add-end-2 c = omega (arith, bounds (c .before) .few)
+add-end-2 c = omega (arith, few (c .before))
 
 row-stop-requires-2 : tie.Need-row-stop-requires-2 Inv-loop μ-loop
 row-stop-requires-2 c κs = search needs
@@ -91,13 +90,13 @@ returns-2 c =
     (stop .ensures .0 ∙ kept .0, kept .1)
 
 add-at : tie.Need-add-at Inv-loop μ-loop
-add-at c = omega (arith, bounds (c .before .before) .within)
+add-at c = omega (arith, found (c .before .before) .within)
 
 add-at-2 : tie.Need-add-at-2 Inv-loop μ-loop
-add-at-2 c = omega (arith, bounds (c .before .before) .within)
+add-at-2 c = omega (arith, found (c .before .before) .within)
 
 loop-less : tie.Need-loop-less Inv-loop μ-loop
-loop-less c = omega (arith, bounds (c .before .before) .some, c .if1 .left)
+loop-less c = omega (arith, found (c .before .before) .some, c .if1 .left)
 
 loop-again : tie.Need-loop-again Inv-loop μ-loop
 loop-again c =

@@ -7,6 +7,7 @@ pub mod encoder;
 
 use comparer::report::report;
 use comparer::shrink::{shrink_within, LIMIT};
+use comparer::unpacking::random::Random;
 use comparer::{Case, Comparer, Difference, Function, Library, Outcome};
 
 /// The buffers of one call. Indices are not checked: a planted mistake may be out of bounds, as it would be in a library.
@@ -138,6 +139,24 @@ pub struct Search {
     pub rounds: usize,
     /// Random cases without the fixed ones must find it too, within so many rounds.
     pub alone: usize,
+}
+
+/// How a mistake in unpacking planes is found, by these fixed cases and by random ones.
+pub const fn unpacking_search(fixed: fn(&mut Comparer) -> Outcome) -> Search {
+    Search {
+        fixed,
+        random: |seed| {
+            let mut random = Random::new(seed);
+            Box::new(move |comparer| random.round(comparer))
+        },
+        rounds: 2000,
+        alone: 20_000,
+    }
+}
+
+/// The unpacker beside a right packer.
+pub fn with_unpacker(unpack: Function) -> Library {
+    Library { unpack, ..RIGHT_LIBRARY }
 }
 
 impl Search {
