@@ -108,7 +108,7 @@ static inline const char *rdp6_refusal_text(int64_t number)
 
 /*
  * Unpacks an RLE plane of width * height samples (FORMAT 4; MS-RDPEGDI 3.1.9.2) from src into the first width * height bytes of dst,
- * and returns the number of bytes of src that it has. What follows them in src may be read, but has no effect.
+ * and returns the number of bytes that its segments take. What follows them in src may be read, but has no effect.
  *
  * Refusals, checked in this order:
  *    1  width or height is 0          }

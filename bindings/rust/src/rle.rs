@@ -11,8 +11,8 @@ pub type RleDecodeError = Refusal;
 pub type RleEncodeError = Refusal;
 
 /// Unpacks an RLE plane of `width` × `height` samples from `src` into the first bytes of `dst`, row by row, and returns the
-/// number of bytes of `src` that it has. What follows them may be read, but has no effect, and the bytes of `dst` behind the plane
-/// are unchanged.
+/// number of bytes that its segments take. What follows them in `src` may be read, but has no effect. The bytes of `dst` behind the
+/// plane are unchanged.
 ///
 /// ```
 /// let body = [0x1F, 0x09, 0x10, 0x09, 0x1F, 0x02, 0x10, 0x02];

@@ -51,7 +51,7 @@ fn decode(src: &[u8], dst: &mut [u8], width: usize, height: usize, codes: &mut [
     Unpacked::Read(at)
 }
 
-// Unpacks a plane of width × height samples from src into the first bytes of dst, and returns the number of bytes of src that were read.
+// Unpacks a plane of width × height samples from src into the first bytes of dst, and returns the number of bytes that its segments take.
 // Refusals 1, 2, 10, then 7, 8, 9; FORMAT 8.3 says what each leaves in dst.
 pub fn decompress_8bpp_plane(src: &[u8], dst: &mut [u8], width: usize, height: usize) -> Unpacked
     ensures answer { λ r. ⌜ toAnswer r ≡ unpackPlane width height (length (now (dst .entry))) (now (src .entry)) .answer ⌝ }
