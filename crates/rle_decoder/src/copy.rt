@@ -32,7 +32,7 @@ pub(crate) fn fill_run(codes: &mut [u8], at: usize, run: usize, value: u8)
 // Writes the values of a segment that is not a long run: its raw bytes, which begin at index `from` of src, and its run. Each is written as
 // 16 bytes, so that no branch depends on its count. The run overwrites what was copied behind the raw bytes, and the next segment what was
 // filled behind the run.
-pub(crate) fn write_segment_wide(
+pub(crate) fn write_segment(
     src: &[u8],
     from: usize,
     raw: usize,
@@ -46,13 +46,4 @@ pub(crate) fn write_segment_wide(
 {
     copy_16(src, from, codes, at);
     fill_run(codes, at + raw, 16, last);
-}
-
-// Writes the values of any segment, and nothing behind them.
-pub(crate) fn write_segment(raw: &[u8], run: usize, last: u8, codes: &mut [u8], at: usize)
-    requires { ⌜ at + (length (now raw) + run) ≤ length (now codes) ⌝ }
-    ensures { λ _. ⌜ now (codes .exit) ≡ writeAt (now (codes .entry)) at (now (raw .entry) ++ replicate run last) ⌝ }
-{
-    bytes::copy(raw, &mut codes[at..]);
-    fill_run(codes, at + raw.len(), run, last);
 }

@@ -1,13 +1,13 @@
-// Segments near the end of src, where 16 bytes must not be read at once: they are read and written by their own counts (FORMAT 3, 4.1).
+// Segments near the end of src, where 16 bytes must not be read at once (FORMAT 3, 4.1).
 ghost use mathlib.Core.Path.{_≡_};
 ghost use Prim.Native.Nat.{ℕ, _+_, _-_, _≤_};
 ghost use lib.ListN.{length, take, drop};
 ghost use Rattle.rle_format.specs.Answer.{toAnswer};
-ghost use Rattle.rle_format.specs.Segment.{rawCount, runLength, readSegment};
+ghost use Rattle.rle_format.specs.Segment.{readSegment};
 ghost use Rattle.rle_decoder.specs.Appended.{Appended};
 ghost use Rattle.rle_decoder.specs.NextSegment.{segmentAnswer, nextToAnswer, valuesOf};
 ghost use Rattle.rle_decoder.specs.Rows.{rowContinued};
-use crate::copy::write_segment;
+use crate::copy::fill_run;
 use crate::row::Row;
 use crate::row::row_stop;
 use crate::segment::NextSegment;
@@ -27,37 +27,8 @@ pub(crate) fn near_end_index(src: &[u8]) -> usize
     src.len() - 16
 }
 
-// What a control byte says: the number of raw bytes that follow it, and the run.
-struct Control {
-    raw: usize,
-    run: usize,
-}
-
-fn control_fields(control: u8) -> Control
-    ensures { λ r. ⌜ (r .raw ≡ rawCount control) × (r .run ≡ runLength control) ⌝ }
-{
-    let low = low_half(control);
-    let high = high_half(control);
-    if low == 1 {
-        return Control {
-            raw: 0,
-            run: 16 + high,
-        };
-    }
-    if low == 2 {
-        return Control {
-            raw: 0,
-            run: 32 + high,
-        };
-    }
-    Control {
-        raw: high,
-        run: low,
-    }
-}
-
-// Reads the segment at index `at` of src; `last` is the last byte before it. Its values go to codes, from index `column` on, before the row
-// knows whether they fit.
+// Reads a segment as `decompress_next_segment` does, but tests for every byte of src whether it is there, and copies raw bytes by their
+// number.
 fn decompress_last_segment(
     src: &[u8],
     at: usize,
@@ -77,16 +48,20 @@ fn decompress_last_segment(
     if control == 0 {
         return NextSegment::Refused(Refusal::InvalidSegmentHeader);
     }
-    let fields = control_fields(control);
-    let raw = fields.raw;
-    let run = fields.run;
-    if src.len() - at - 1 < raw {
+    let low = low_half(control);
+    let high = high_half(control);
+    if std::num::wrapping_sub_usize(low, 1) < 2 {
+        fill_run(codes, column, 48, last);
+        return NextSegment::Read(0, low * 16 + high, last);
+    }
+    if src.len() - at - 1 < high {
         return NextSegment::Refused(Refusal::ReadCompressedData);
     }
-    let next = last_decoded_byte(src, at, raw, last);
+    let next = last_decoded_byte(src, at, high, last);
     let start = at + 1;
-    write_segment(&src[start..start + raw], run, next, codes, column);
-    NextSegment::Read(raw, run, next)
+    bytes::copy(&src[start..start + high], &mut codes[column..]);
+    fill_run(codes, column + high, 16, next);
+    NextSegment::Read(high, low, next)
 }
 
 // Reads the rest of a row that began at index `from` of src: its next segment is at index `resume`, codes has the first `filled` values, and

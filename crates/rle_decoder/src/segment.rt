@@ -7,7 +7,7 @@ ghost use Rattle.rle_decoder.specs.NextSegment.{segmentAnswer, nextToAns
 ghost use Rattle.rle_decoder.specs.Appended.{Appended};
 use crate::copy::copy_16;
 use crate::copy::fill_run;
-use crate::copy::write_segment_wide;
+use crate::copy::write_segment;
 use rle_format::Refusal;
 
 // A segment that was read: the number of its raw bytes, its run, and the last byte after it; or the refusal.
@@ -76,6 +76,6 @@ pub(crate) fn decompress_next_segment(
     }
     // every other control byte: `high` raw bytes, then a run of `low`
     let next = last_decoded_byte(src, at, high, last);
-    write_segment_wide(src, at + 1, high, low, next, codes, column);
+    write_segment(src, at + 1, high, low, next, codes, column);
     NextSegment::Read(high, low, next)
 }

@@ -29,17 +29,13 @@ module _ (c : ℕ) where
     unfolding rawCount runLength
     control-plain not-two = rw (ne-eqb (c % 16) 1 not-one, ne-eqb (c % 16) 2 not-two) (refl, refl)
 
--- a control byte that is not 0 gives at least one value, and at most 47
-pub record ControlBounds (c : ℕ) : Type 0 where
-  pub some : (c ≡ 0 → ⊥) → 1 ≤ rawCount c + runLength c
-  pub few : c < 256 → rawCount c + runLength c ≤ 47
-
-pub control-bounds : (c : ℕ) → ControlBounds c
-control-bounds c =
-    ⊎-elim (λ (one : c % 16 ≡ 1). let s = control-run-1 c one in record { some = λ z. omega arith; few = λ h. omega arith })
+-- a control byte that is not 0 gives at least one value
+control-some : (c : ℕ) → (c ≡ 0 → ⊥) → 1 ≤ rawCount c + runLength c
+control-some c z =
+    ⊎-elim (λ (one : c % 16 ≡ 1). let s = control-run-1 c one in omega arith)
     (λ (not-one : c % 16 ≡ 1 → ⊥).
-    ⊎-elim (λ (two : c % 16 ≡ 2). let s = control-run-2 c not-one two in record { some = λ z. omega arith; few = λ h. omega arith })
-    (λ (not-two : c % 16 ≡ 2 → ⊥). let s = control-plain c not-one not-two in record { some = λ z. omega arith; few = λ h. omega arith })
+    ⊎-elim (λ (two : c % 16 ≡ 2). let s = control-run-2 c not-one two in omega arith)
+    (λ (not-two : c % 16 ≡ 2 → ⊥). let s = control-plain c not-one not-two in omega arith)
     (eq-or-ne (c % 16) 2))
     (eq-or-ne (c % 16) 1)
 
@@ -71,7 +67,7 @@ segment-facts (c ∷ rest) s e = go (eqb c 0) (ltb (length rest) (rawCount c)) r
         let n : length (take (rawCount c) rest) ≡ rawCount c = length-take-le (rawCount c) rest there in
         let of-it : SegmentFacts (c ∷ rest) it = record {
           fits = omega arith;
-          some = omega (arith, control-bounds c .some (eqb-false c 0 ez));
+          some = omega (arith, control-some c (eqb-false c 0 ez));
         } in
         rw same at of-it
 

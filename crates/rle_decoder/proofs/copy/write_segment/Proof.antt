@@ -1,23 +1,16 @@
--- `write_segment`: two writes, one right behind the other. Assumes nothing.
-use mathlib.Core.Path.{refl}
+-- `write_segment`: sixteen bytes, of which the raw bytes count, then sixteen copies, of which the run counts. Assumes nothing.
+use mathlib.Core.Path.{_≡_}
+use Prim.Native.Nat.{_+_}
 use native.Mathlib.Omega.{arith}
-use lib.ListN.{length, replicate}
-use Rattle.rle_format.proofs.Slice.{writeAt-append, replaceSuffix, suffix-overwrite, copied-overwrite}
+use lib.ListN.{length, take, drop, replicate, length-drop}
+use lib.Seq.{length-take-le}
+use Rattle.rle_decoder.proofs.Appended.{appended-copy, appended-fill, appended-then}
 use borrow.Author.Needs.{needs}
 use Rattle.rle_decoder.proofs.copy.write_segment.Statement.{statement}
 use Rattle.rle_decoder.proofs.copy.write_segment.Tie as tie
 
-sub-copy : tie.Need-sub-copy
-sub-copy c = search needs
-
-part-copy-start : tie.Need-part-copy-start
-part-copy-start c = search needs
-
-part-copy-end : tie.Need-part-copy-end
-part-copy-end c = search needs
-
-copy-requires : tie.Need-copy-requires
-copy-requires c κs = search needs
+copy-16-requires : tie.Need-copy-16-requires
+copy-16-requires c κs = search needs
 
 add-fill-run : tie.Need-add-fill-run
 add-fill-run c = search needs
@@ -30,21 +23,16 @@ same-length c = search needs
 
 returns : tie.Need-returns
 returns c =
-    let f = c .before .before .fill-run in
-    let k = c .before .before .before .before .before .before .copy in
     let a = c .before .before .before .before .before .before .before .before .before .before .args in
-    let one = suffix-overwrite (a .codes .now) (k .last .1 .0) (a .raw .now) (a .at) (copied-overwrite _ (a .raw .now) _ (k .ensures .1)) in
-    writeAt-append (a .codes .now) (replaceSuffix (a .codes .now) (a .at) (k .last .1 .0)) (f .last .0) (a .raw .now) (replicate (a .run) (a .last)) (a .at) (length (a .raw .now)) refl (omega arith) one (f .ensures)
+    let f = c .before .before .fill-run in
+    let k = c .before .before .before .before .before .before .copy-16 in
+    let xs = take (a .raw) (drop (a .from) (a .src .now)) in
+    let rest = length-drop (a .from) (a .src .now) in
+    let n : length xs ≡ a .raw = length-take-le (a .raw) (drop (a .from) (a .src .now)) (omega arith) in
+    let copied = appended-copy (a .codes .now) (k .last .1 .1 .0) (a .src .now) (a .at) (a .from) (a .raw) (omega arith) (omega arith) (omega arith) (k .ensures) in
+    let filled = appended-fill (k .last .1 .1 .0) (f .last .0) (a .at + a .raw) 16 (a .run) (a .last) (omega (arith, k .kept .1 .1 .0)) (omega arith) (f .ensures) in
+    appended-then (a .codes .now) (k .last .1 .1 .0) (f .last .0) (a .at) xs (replicate (a .run) (a .last)) copied (rw (← n) at filled)
 
 pub write-segment-spec : {M : Type 1} → statement M
 write-segment-spec =
-    tie.close
-    (tie.spec
-    sub-copy
-    part-copy-start
-    part-copy-end
-    copy-requires
-    add-fill-run
-    fill-run-requires
-    same-length
-    returns)
+    tie.close (tie.spec copy-16-requires add-fill-run fill-run-requires same-length returns)

@@ -1,29 +1,17 @@
 -- `decompress_next_segment`: each kind of segment from the test that led to it. Assumes nothing.
-use mathlib.Core.Path.{_≡_, refl, sym, ap, _∙_}
+use mathlib.Core.Path.{_≡_, sym, ap}
 use mathlib.Core.List.{_++_, append-nil}
-use Prim.Native.Nat.{ℕ, _+_, _*_, _≤_}
+use Prim.Native.Nat.{_+_, _*_, _≤_}
 use native.Mathlib.Omega.{arith}
 use lib.ListN.{take, drop, replicate, getD}
-use Rattle.rle_format.specs.Segment.{rawCount, runLength}
-use Rattle.rle_format.proofs.Segment.{control-plain, read-zero-control, lastOr-raw}
+use Rattle.rle_format.proofs.Segment.{read-zero-control, lastOr-raw}
 use Rattle.rle_decoder.specs.Appended.{Appended}
 use Rattle.rle_decoder.specs.NextSegment.{nextToAnswer}
-use Rattle.rle_decoder.proofs.Appended.{appended-copy, appended-fill}
-use Rattle.rle_decoder.proofs.Segments.{refused-not-read, says-long, answers-none, answers-read}
+use Rattle.rle_decoder.proofs.Appended.{appended-copy}
+use Rattle.rle_decoder.proofs.Segments.{refused-not-read, answers-none, answers-long, answers-plain}
 use borrow.Author.Needs.{needs}
 use Rattle.rle_decoder.proofs.segment.decompress_next_segment.Statement.{statement}
 use Rattle.rle_decoder.proofs.segment.decompress_next_segment.Tie as tie
-
--- no long run: the halves are what the control byte says
-plain : (w : tie.After-wrapping-sub-usize) → 2 ≤ w .wrapping-sub-usize .result
-    → (w .before .high-half .result ≡ rawCount (getD (w .before .before .before .before .before .before .args .src .now) (w .before .before .before .before .before .before .args .at) 0))
-    × (w .before .before .low-half .result ≡ runLength (getD (w .before .before .before .before .before .before .args .src .now) (w .before .before .before .before .before .before .args .at) 0))
-plain w h =
-    let a = w .before .before .before .before .before .before .args in
-    let b = getD (a .src .now) (a .at) 0 in
-    let low = w .before .before .low-half in
-    let s = control-plain b (omega (arith, low .ensures, w .wrapping-sub-usize .ensures)) (omega (arith, low .ensures, w .wrapping-sub-usize .ensures)) in
-    (w .before .high-half .ensures .0 ∙ s .0, low .ensures .0 ∙ s .1)
 
 shared-slice-read-control : tie.Need-shared-slice-read-control
 shared-slice-read-control c = search needs
@@ -55,19 +43,14 @@ returns c =
     let w = c .before .before .before .before .before in
     let s = w .before .before .before .before .before .before in
     let a = s .args in
-    let b = getD (a .src .now) (a .at) 0 in
     let low = w .before .before .low-half in
     let high = w .before .high-half in
     let f = c .before .before .fill-run in
     let far = s .pre .0 in
-    let run : ℕ = low .result * 16 + high .result in
-    let l = says-long b (omega (arith, low .ensures, w .wrapping-sub-usize .ensures, c .before .before .before .before .if1 .taken)) (omega (arith, low .ensures, w .wrapping-sub-usize .ensures, c .before .before .before .before .if1 .taken)) in
-    let is : run ≡ runLength b = (λ i. low .ensures .0 i * 16 + high .ensures .0 i) ∙ l .1 in
-    let few : run ≤ 47 = omega (arith, low .ensures, high .ensures, w .wrapping-sub-usize .ensures, c .before .before .before .before .if1 .taken) in
-    let some : b ≡ 0 → ⊥ = omega (arith, low .ensures, w .wrapping-sub-usize .ensures, c .before .before .before .before .if1 .taken) in
-    let filled = appended-fill (a .codes .now) (f .last .0) (a .column) 48 run (a .last) (omega arith) (omega arith) (f .ensures) in
-    let r = answers-read (a .src .now) (a .codes .now) (f .last .0) (a .at) (a .last) (a .column) 0 run (a .last) (omega arith) some (l .0) is (omega arith) refl filled in
-    (r .0, (λ raw′ run′ next q. let p : 0 ≡ raw′ = cc in let n : run ≡ run′ = cc in omega arith, r .1))
+    let some : 1 ≤ low .result = omega (arith, w .wrapping-sub-usize .ensures, c .before .before .before .before .if1 .taken) in
+    let few : low .result ≤ 2 = omega (arith, w .wrapping-sub-usize .ensures, c .before .before .before .before .if1 .taken) in
+    let r = answers-long (a .src .now) (a .codes .now) (f .last .0) (a .at) (a .last) (a .column) (low .result) (high .result) (omega arith) (low .ensures .0) (high .ensures .0) some few (high .ensures .1) (s .pre .1) (f .ensures) in
+    (r .0, (λ raw run next q. let p : 0 ≡ raw = cc in let n : low .result * 16 + high .result ≡ run = cc in omega (arith, few, high .ensures .1), r .1))
 
 add-copy-16 : tie.Need-add-copy-16
 add-copy-16 c = search needs
@@ -89,17 +72,15 @@ returns-2 : tie.Need-returns-2
 returns-2 c =
     let s = c .before .before .before .before .before .before .before .before .before .before .before .before .before in
     let a = s .args in
-    let b = getD (a .src .now) (a .at) 0 in
     let k = c .before .before .before .copy-16 in
-    let is : b ≡ 240 = c .before .before .before .before .before .if2 .taken in
+    let is : getD (a .src .now) (a .at) 0 ≡ 240 = c .before .before .before .before .before .if2 .taken in
     let far = s .pre .0 in
-    let says = control-plain b (omega arith) (omega arith) in
     let copied = appended-copy (a .codes .now) (k .last .1 .1 .0) (a .src .now) (a .column) (a .at + 1) 15 (omega arith) (omega arith) (omega arith) (k .ensures) in
     let held : Appended (a .codes .now) (k .last .1 .1 .0) (a .column) (take 15 (drop (a .at + 1) (a .src .now)) ++ replicate 0 (getD (a .src .now) (a .at + 15) 0)) =
     rw (append-nil (take 15 (drop (a .at + 1) (a .src .now)))) copied in
-    let r = answers-read (a .src .now) (a .codes .now) (k .last .1 .1 .0) (a .at) (a .last) (a .column) 15 0 (getD (a .src .now) (a .at + 15) 0) (omega arith) (omega arith)
-    (omega (arith, says .0)) (omega (arith, says .1)) (omega arith) (sym (lastOr-raw (a .src .now) (a .at) 15 (a .last) (omega arith) (omega arith))) held in
-    (r .0, (λ raw′ run′ next q. let p : 15 ≡ raw′ = cc in let n : 0 ≡ run′ = cc in omega arith, r .1))
+    let r = answers-plain (a .src .now) (a .codes .now) (k .last .1 .1 .0) (a .at) (a .last) (a .column) 0 15 (getD (a .src .now) (a .at + 15) 0) (omega arith) (omega arith)
+    (omega arith) (omega arith) (omega arith) (omega arith) (omega arith) (sym (lastOr-raw (a .src .now) (a .at) 15 (a .last) (omega arith) (omega arith))) held in
+    (r .0, (λ raw run next q. let p : 15 ≡ raw = cc in let n : 0 ≡ run = cc in omega arith, r .1))
 
 -- control byte 0
 returns-3 : tie.Need-returns-3
@@ -112,11 +93,11 @@ returns-3 c =
 last-decoded-byte-requires : tie.Need-last-decoded-byte-requires
 last-decoded-byte-requires c κs = search needs
 
-add-write-segment-wide : tie.Need-add-write-segment-wide
-add-write-segment-wide c = search needs
+add-write-segment : tie.Need-add-write-segment
+add-write-segment c = search needs
 
-write-segment-wide-requires : tie.Need-write-segment-wide-requires
-write-segment-wide-requires c κs = search needs
+write-segment-requires : tie.Need-write-segment-requires
+write-segment-requires c κs = search needs
 
 same-length-3 : tie.Need-same-length-3
 same-length-3 c = search needs
@@ -127,15 +108,15 @@ returns-4 c =
     let w = c .before .before .before .before .before .before .before .before in
     let s = w .before .before .before .before .before .before in
     let a = s .args in
-    let p = plain w (c .before .before .before .before .before .before .before .if1 .left) in
-    let k = c .before .before .write-segment-wide in
+    let k = c .before .before .write-segment in
     let n = c .before .before .before .before .last-decoded-byte in
     let far = s .pre .0 in
-    let raw : ℕ = w .before .high-half .result in
-    let run : ℕ = w .before .before .low-half .result in
-    let r = answers-read (a .src .now) (a .codes .now) (k .last .1 .1 .1 .1 .1 .0) (a .at) (a .last) (a .column) raw run (n .result) (omega arith) (c .before .before .before .before .before .if3 .left)
-    (p .0) (p .1) (omega (arith, w .before .high-half .ensures)) (n .ensures) (k .ensures) in
-    (r .0, (λ raw′ run′ next q. let e : raw ≡ raw′ = cc in let f : run ≡ run′ = cc in omega (arith, w .before .high-half .ensures, w .before .before .low-half .ensures), r .1))
+    let low = w .before .before .low-half in
+    let high = w .before .high-half in
+    let plain = c .before .before .before .before .before .before .before .if1 .left in
+    let r = answers-plain (a .src .now) (a .codes .now) (k .last .1 .1 .1 .1 .1 .0) (a .at) (a .last) (a .column) (low .result) (high .result) (n .result) (omega arith) (c .before .before .before .before .before .if3 .left)
+    (low .ensures .0) (high .ensures .0) (omega (arith, w .wrapping-sub-usize .ensures)) (omega (arith, w .wrapping-sub-usize .ensures)) (omega (arith, high .ensures .1)) (n .ensures) (k .ensures) in
+    (r .0, (λ raw run next q. let e : high .result ≡ raw = cc in let f : low .result ≡ run = cc in omega (arith, high .ensures .1, low .ensures .1), r .1))
 
 pub decompress-next-segment-spec : {M : Type 1} → statement M
 decompress-next-segment-spec =
@@ -158,7 +139,7 @@ decompress-next-segment-spec =
     returns-2
     returns-3
     last-decoded-byte-requires
-    add-write-segment-wide
-    write-segment-wide-requires
+    add-write-segment
+    write-segment-requires
     same-length-3
     returns-4)
