@@ -54,7 +54,7 @@ fn decompress_last_segment(
         fill_run(codes, column, 48, last);
         return NextSegment::Read(0, low * 16 + high, last);
     }
-    if src.len() - at - 1 < high {
+    if src.len() - at <= high {
         return NextSegment::Refused(Refusal::ReadCompressedData);
     }
     let next = last_decoded_byte(src, at, high, last);

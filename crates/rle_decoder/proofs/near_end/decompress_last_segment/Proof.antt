@@ -69,16 +69,13 @@ returns-3 c =
 sub-if4 : tie.Need-sub-if4
 sub-if4 c = search needs
 
-sub-if4-2 : tie.Need-sub-if4-2
-sub-if4-2 c = search needs
-
 -- a raw byte is missing
 returns-4 : tie.Need-returns-4
 returns-4 c =
     let w = c .before .before in
     let a = w .before .before .before .before .before .before .before .before .args in
     let says = says-plain _ _ _ (w .before .before .low-half .ensures .0) (w .before .high-half .ensures .0) (omega (arith, w .wrapping-sub-usize .ensures, c .before .if3 .left)) (omega (arith, w .wrapping-sub-usize .ensures, c .before .if3 .left)) in
-    let r = answers-none (a .src .now) (a .codes .now) (a .at) (a .last) (a .column) 7 (read-missing-raw (a .src .now) (a .at) (w .before .before .before .before .before .if1 .left) (w .before .before .before .if2 .left) (rw (says .0) at (c .if4 .taken))) in
+    let r = answers-none (a .src .now) (a .codes .now) (a .at) (a .last) (a .column) 7 (read-missing-raw (a .src .now) (a .at) (w .before .before .before .before .before .if1 .left) (w .before .before .before .if2 .left) (omega (arith, says .0, c .if4 .taken))) in
     (r .0, (λ raw run next e. refused-not-read (ap nextToAnswer e), r .1))
 
 last-decoded-byte-requires : tie.Need-last-decoded-byte-requires
@@ -148,7 +145,7 @@ returns-5 c =
     let filled = appended-fill one (f .last .0) (a .column + raw) 16 (low .result) (n .result) (omega arith) (omega (arith, low .ensures .1)) (f .ensures) in
     let both = appended-then (a .codes .now) one (f .last .0) (a .column) bytes (replicate (low .result) (n .result)) copied (rw (← lb) at filled) in
     let r = answers-plain (a .src .now) (a .codes .now) (f .last .0) (a .at) (a .last) (a .column) (low .result) raw (n .result) (w .before .before .before .before .before .if1 .left) (w .before .before .before .if2 .left)
-    (low .ensures .0) (high .ensures .0) (omega (arith, w .wrapping-sub-usize .ensures, e .before .if3 .left)) (omega (arith, w .wrapping-sub-usize .ensures, e .before .if3 .left)) there (n .ensures) both in
+    (low .ensures .0) (high .ensures .0) (omega (arith, w .wrapping-sub-usize .ensures, e .before .if3 .left)) (omega (arith, w .wrapping-sub-usize .ensures, e .before .if3 .left)) (omega arith) (n .ensures) both in
     (r .0, (λ raw′ run next q. let p : raw ≡ raw′ = cc in let m : low .result ≡ run = cc in omega (arith, low .ensures .1, room), r .1))
 
 pub decompress-last-segment-spec : {M : Type 1} → statement M
@@ -167,7 +164,6 @@ decompress-last-segment-spec =
     same-length
     returns-3
     sub-if4
-    sub-if4-2
     returns-4
     last-decoded-byte-requires
     add-start
