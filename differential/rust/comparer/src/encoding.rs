@@ -1,5 +1,6 @@
 //! The cases of picture packing.
 
+pub mod blocks;
 pub mod case;
 pub mod check;
 pub mod examples;

@@ -2,5 +2,6 @@
 
 pub mod boundary;
 pub mod fixed;
+pub mod places;
 pub mod random;
 pub mod rooms;

@@ -56,6 +56,9 @@ pub enum Kind {
     Sides,
     SmallPlanes,
     BoundaryRows,
+    RunPlaces,
+    WideRows,
+    EveryRoom,
     Sources,
     PackTable,
     LongSides,
@@ -91,6 +94,8 @@ pub enum Kind {
     EncodingSmall,
     EncodingBoundary,
     EncodingRooms,
+    EncodingBlocks,
+    EncodingPlaces,
     EncodingLongSides,
     EncodingLargest,
     RandomEncodings,
@@ -103,7 +108,7 @@ pub enum Kind {
 }
 
 /// Each kind with its part and its line of the report, in the order of the enum.
-const KINDS: [(Kind, Part, &str); 62] = [
+const KINDS: [(Kind, Part, &str); 67] = [
     (Kind::Short, Part::Unpacking, "all bodies of up to 2 bytes"),
     (Kind::Alphabet, Part::Unpacking, "bodies of 3 to 5 bytes, all forms of control bytes"),
     (Kind::Rooms, Part::Unpacking, "every destination length around width x height"),
@@ -122,6 +127,9 @@ const KINDS: [(Kind, Part, &str); 62] = [
     (Kind::Sides, Part::Unpacking, "random sides outside the domain"),
     (Kind::SmallPlanes, Part::Packing, "all planes of up to 12 samples, or 6 of four values"),
     (Kind::BoundaryRows, Part::Packing, "rows of runs and literals of boundary lengths"),
+    (Kind::RunPlaces, Part::Packing, "runs at every place of a row, behind raw bytes"),
+    (Kind::WideRows, Part::Packing, "runs at the ends of rows of about 256 and 8192"),
+    (Kind::EveryRoom, Part::Packing, "every destination length of planes with a run"),
     (Kind::Sources, Part::Packing, "sources longer and shorter than the plane"),
     (Kind::PackTable, Part::Packing, "a table of sides, most of them refused"),
     (Kind::LongSides, Part::Packing, "sides of 8191 and 8192"),
@@ -157,6 +165,8 @@ const KINDS: [(Kind, Part, &str); 62] = [
     (Kind::EncodingSmall, Part::Encoding, "all pictures of up to 3 pixels, or 2 of four planes"),
     (Kind::EncodingBoundary, Part::Encoding, "rows of runs and literals of boundary lengths"),
     (Kind::EncodingRooms, Part::Encoding, "destinations around every segment's end"),
+    (Kind::EncodingBlocks, Part::Encoding, "rows of about 64, 128, 256 and 8192 pixels"),
+    (Kind::EncodingPlaces, Part::Encoding, "runs at the ends of rows, other ones in each channel"),
     (Kind::EncodingLongSides, Part::Encoding, "sides of 8191 and 8192"),
     (Kind::EncodingLargest, Part::Encoding, "pictures of 8192 x 8192"),
     (Kind::RandomEncodings, Part::Encoding, "random pictures"),

@@ -2,8 +2,8 @@
 
 use crate::case::MAX_SIDE;
 use crate::check::{Comparer, Outcome};
-use crate::encoding::given::{self, both, given, ALPHAS, FORMS};
-use crate::encoding::{examples, refused, Encoding, Sources};
+use crate::encoding::given::{self, both, given, in_rooms, ALPHAS, FORMS};
+use crate::encoding::{blocks, examples, refused, Encoding, Sources};
 use crate::guarded::SIDES as BOTH_SIDES;
 use crate::packing::boundary;
 use crate::packing::fixed::TWO_VALUES;
@@ -27,14 +27,15 @@ pub fn run_quick(comparer: &mut Comparer) -> Outcome {
     small_pictures(comparer, earlier)?;
     telling_pictures(comparer, earlier)?;
     kinds(comparer, earlier)?;
-    long_sides(comparer, earlier)
+    long_sides(comparer, earlier)?;
+    blocks::run(comparer)
 }
 
 /// How many segments' ends a destination is tried around: all of most pictures, some of the longest.
 const SEGMENTS: usize = 400;
 const FEWER_SEGMENTS: usize = 6;
 
-/// Both entries of a picture, RLE and raw, with their rooms.
+/// A picture with the rooms around so many segments.
 fn in_all_rooms(
     comparer: &mut Comparer,
     earlier: &mut Earlier,
@@ -43,13 +44,7 @@ fn in_all_rooms(
     planes: &Planes,
     segments: usize,
 ) -> Outcome {
-    for (sources, rle) in both(planes).iter().flat_map(|sources| FORMS.map(|rle| (sources, rle))) {
-        let case = given(rle, sides, sources.view());
-        for room in case.rooms(segments) {
-            case.compare_in(comparer, earlier, kind, room)?;
-        }
-    }
-    Ok(())
+    in_rooms(comparer, earlier, kind, sides, planes, |case| case.rooms(segments))
 }
 
 /// The planes that these samples are, one behind the other: R, G and B, then A.

@@ -38,6 +38,24 @@ pub fn form(alpha: bool) -> Form {
     Form::argb(true, alpha)
 }
 
+/// Both entries of a picture, RLE and raw, with the rooms that are chosen for each.
+pub fn in_rooms<Rooms: IntoIterator<Item = usize>>(
+    comparer: &mut Comparer,
+    earlier: &mut Earlier,
+    kind: Kind,
+    sides: (usize, usize),
+    planes: &Planes,
+    rooms: impl Fn(Encoding<&[u8]>) -> Rooms,
+) -> Outcome {
+    for (sources, rle) in both(planes).iter().flat_map(|sources| FORMS.map(|rle| (sources, rle))) {
+        let case = given(rle, sides, sources.view());
+        for room in rooms(case) {
+            case.compare_in(comparer, earlier, kind, room)?;
+        }
+    }
+    Ok(())
+}
+
 /// What is given to an encoder without a destination.
 pub fn given(rle: bool, (width, height): (usize, usize), sources: Sources<&[u8]>) -> Encoding<&[u8]> {
     Encoding { width, height, rle, sources, before: &[] }

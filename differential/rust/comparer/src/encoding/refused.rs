@@ -78,8 +78,9 @@ fn in_all_sides(comparer: &mut Comparer, earlier: &mut Earlier, case: Encoding<&
     Ok(())
 }
 
-/// The sides of the pictures whose sources have other lengths.
-const SIDES: [(usize, usize); 8] = [(1, 1), (2, 1), (1, 2), (3, 2), (2, 5), (17, 1), (16, 3), (48, 2)];
+/// The sides of the pictures whose sources have other lengths. The last have rows of about 64 pixels.
+const SIDES: [(usize, usize); 11] =
+    [(1, 1), (2, 1), (1, 2), (3, 2), (2, 5), (17, 1), (16, 3), (48, 2), (63, 2), (64, 1), (67, 1)];
 
 /// Sources that are short, exact and long, one of them and all of them, with room and without.
 fn sources(comparer: &mut Comparer, earlier: &mut Earlier) -> Outcome {

@@ -63,19 +63,27 @@ fn difference(code: u8) -> u8 {
     }
 }
 
+/// The plane whose rows have these coded values, from the first row to the last.
+pub fn plane_of(rows: &[&[u8]]) -> Vec<u8> {
+    let mut plane = rows[0].to_vec();
+    let mut above = plane.clone();
+    for codes in &rows[1..] {
+        above = under(&above, codes);
+        plane.extend(&above);
+    }
+    plane
+}
+
 /// A plane of two rows. The upper one is of one value or of changing ones; the codes of the lower one are `codes`.
 pub fn under_a_row(codes: &[u8], flat: bool) -> Vec<u8> {
     let upper: Vec<u8> = (0..codes.len()).map(|at| if flat { 100 } else { (at * 29) as u8 }).collect();
-    let lower = under(&upper, codes);
-    [upper, lower].concat()
+    plane_of(&[&upper, codes])
 }
 
 /// A plane of three rows: the row, then the same backwards as codes, then once more as codes.
 fn three_times(row: &[u8]) -> Vec<u8> {
     let backwards: Vec<u8> = row.iter().rev().copied().collect();
-    let second = under(row, &backwards);
-    let third = under(&second, row);
-    [row, &second, &third].concat()
+    plane_of(&[row, &backwards, row])
 }
 
 /// For each of the rows a plane of it alone and one of two rows, for some also one of three: width, height, samples.

@@ -1,10 +1,11 @@
-//! The part that is the same in every run: all small planes, boundary rows, all destination lengths, the refused sides.
+//! The part that is the same in every run: all small planes, boundary rows, runs at every place, all destination lengths, the refused
+//! sides.
 
 use crate::case::{Case, BOUNDARY_SIDES, MAX_SIDE};
 use crate::check::{Comparer, Outcome};
 use crate::guarded::SIDES as BOTH_SIDES;
-use crate::packing::boundary;
-use crate::packing::rooms::rooms;
+use crate::packing::rooms::{in_rooms, rooms};
+use crate::packing::{boundary, places};
 use crate::planes::{self, Earlier, PlaneKind, PLANE_KINDS};
 use crate::rng::Rng;
 use crate::strings::each_string;
@@ -20,15 +21,16 @@ pub fn run(comparer: &mut Comparer) -> Outcome {
     refused_sides(comparer, earlier)?;
     sources(comparer, earlier)?;
     each_plane(&TWO_VALUES, 12, &mut |width, height, samples| {
-        in_all_rooms(comparer, earlier, Kind::SmallPlanes, (width, height), samples)
+        in_rooms(comparer, earlier, Kind::SmallPlanes, (width, height), samples, rooms)
     })?;
     each_plane(&FOUR_VALUES, 6, &mut |width, height, samples| {
-        in_all_rooms(comparer, earlier, Kind::SmallPlanes, (width, height), samples)
+        in_rooms(comparer, earlier, Kind::SmallPlanes, (width, height), samples, rooms)
     })?;
     for (width, height, samples) in boundary::planes() {
-        in_all_rooms(comparer, earlier, Kind::BoundaryRows, (width, height), &samples)?;
+        in_rooms(comparer, earlier, Kind::BoundaryRows, (width, height), &samples, rooms)?;
     }
     long_sides(comparer, earlier)?;
+    places::run(comparer)?;
     largest_plane(comparer, earlier)
 }
 
@@ -38,21 +40,6 @@ pub fn each_plane(values: &[u8], most: usize, visit: &mut dyn FnMut(usize, usize
         for width in (1..=count).filter(|width| count % width == 0) {
             each_string(values, count, &mut |samples| visit(width, count / width, samples))?;
         }
-    }
-    Ok(())
-}
-
-/// A plane with the rooms that its packing is tried with.
-fn in_all_rooms(
-    comparer: &mut Comparer,
-    earlier: &mut Earlier,
-    kind: Kind,
-    (width, height): (usize, usize),
-    samples: &[u8],
-) -> Outcome {
-    let packing = original::pack(samples, width, height).expect("a complete plane with room");
-    for room in rooms(&packing) {
-        comparer.compare(kind, Case::pack(width, height, samples, earlier.bytes(room)))?;
     }
     Ok(())
 }
@@ -108,15 +95,15 @@ fn long_sides(comparer: &mut Comparer, earlier: &mut Earlier) -> Outcome {
     for side in [MAX_SIDE - 1, MAX_SIDE] {
         for sides in [(side, 1), (side, 2), (1, side)] {
             let flat = vec![9; sides.0 * sides.1];
-            in_all_rooms(comparer, earlier, Kind::LongSides, sides, &flat)?;
+            in_rooms(comparer, earlier, Kind::LongSides, sides, &flat, rooms)?;
             for plane_kind in PLANE_KINDS {
                 let samples = planes::samples(rng, plane_kind, sides.0, sides.1);
-                in_all_rooms(comparer, earlier, Kind::LongSides, sides, &samples)?;
+                in_rooms(comparer, earlier, Kind::LongSides, sides, &samples, rooms)?;
             }
         }
     }
     let samples = planes::samples(rng, PlaneKind::Runs, 3, MAX_SIDE);
-    in_all_rooms(comparer, earlier, Kind::LongSides, (3, MAX_SIDE), &samples)
+    in_rooms(comparer, earlier, Kind::LongSides, (3, MAX_SIDE), &samples, rooms)
 }
 
 /// The largest plane: with just the room that it needs, and with one byte less. It is passed at one side of its
