@@ -62,7 +62,7 @@ fn planes_unpacked() {
 
 #[test]
 fn planes_packed() {
-    for file in ["plane-pack.txt", "examples-pack.txt", "refusals-pack.txt"] {
+    for file in ["plane-pack.txt", "plane-pack-boundaries.txt", "examples-pack.txt", "refusals-pack.txt"] {
         for_each_case("plane_vectors", file, |case| check_plane(compress_8bpp_plane, case));
     }
 }

@@ -15,6 +15,7 @@ fn main() {
     replay(Operation::Unpack, b"plane-unpack.txt");
     replay(Operation::Unpack, b"plane-unpack-boundaries.txt");
     replay(Operation::Pack, b"plane-pack.txt");
+    replay(Operation::Pack, b"plane-pack-boundaries.txt");
 }
 
 // Replays the cases of the file at `path`, which are all of one kind.

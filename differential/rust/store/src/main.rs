@@ -1,5 +1,5 @@
-//! Writes samples of IronRDP's answers inside the domain, one case a line: two files for unpacking of planes and one
-//! for packing,
+//! Writes samples of IronRDP's answers inside the domain, one case a line: two files each for unpacking and packing of
+//! planes,
 //!
 //!   WIDTH HEIGHT ROOM ANSWER SOURCE AFTER
 //!
@@ -17,6 +17,7 @@
 mod boundary_sample;
 mod encoding_sample;
 mod encodings;
+mod pack_boundary_sample;
 mod pack_sample;
 mod picture_sample;
 mod pictures;
@@ -94,12 +95,15 @@ impl Stored {
 /// A file, in the folder of the program that replays it, and what makes its lines.
 type Sample = (&'static str, fn() -> Lines);
 
-const SAMPLES: [Sample; 6] = [
+const SAMPLES: [Sample; 7] = [
     ("plane_vectors/data/plane-unpack.txt", || Stored::lines_of(Operation::Unpack, sample::keep_all)),
     ("plane_vectors/data/plane-unpack-boundaries.txt", || {
         Stored::lines_of(Operation::Unpack, boundary_sample::keep_all)
     }),
     ("plane_vectors/data/plane-pack.txt", || Stored::lines_of(Operation::Pack, pack_sample::keep_all)),
+    ("plane_vectors/data/plane-pack-boundaries.txt", || {
+        Stored::lines_of(Operation::Pack, pack_boundary_sample::keep_all)
+    }),
     ("picture_vectors/data/picture-unpack.txt", pictures::lines),
     ("encode_vectors/data/channels-pack.txt", || encodings::lines(Entry::Channels)),
     ("encode_vectors/data/bitmap-pack.txt", || encodings::lines(Entry::Bitmap)),

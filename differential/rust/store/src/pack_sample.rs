@@ -17,7 +17,7 @@ pub fn keep_all(stored: &mut Stored) {
     wide_and_tall(stored, &mut Rng::new(8));
 }
 
-fn packed(samples: &[u8], width: usize, height: usize) -> Vec<u8> {
+pub fn packed(samples: &[u8], width: usize, height: usize) -> Vec<u8> {
     original::pack(samples, width, height).expect("a complete plane with room")
 }
 
@@ -44,7 +44,7 @@ fn every_room(stored: &mut Stored, rng: &mut Rng) {
     }
 }
 
-fn keep_with_every_room(stored: &mut Stored, width: usize, height: usize, samples: &[u8]) {
+pub fn keep_with_every_room(stored: &mut Stored, width: usize, height: usize, samples: &[u8]) {
     for room in 0..=packed(samples, width, height).len() + 1 {
         stored.keep(width, height, room, samples);
     }
