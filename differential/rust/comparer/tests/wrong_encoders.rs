@@ -4,30 +4,16 @@ mod support;
 
 use comparer::case::MAX_SIDE;
 use comparer::encoding::fixed;
-use comparer::encoding::random::Random;
 use comparer::encoding::Channel;
-use comparer::{Comparer, Library};
-use support::encoder::{encoders, packed, Call, Encoder, Given, Right, A, B, G, R};
-use support::{Search, RIGHT_LIBRARY};
+use comparer::Comparer;
+use support::encoder::{packed, Call, Encoder, Given, Right, A, B, G, R};
+use support::{encoding_search, with_encoder, Search};
 
-const SEARCH: Search = Search {
-    fixed: fixed::run,
-    random: |seed| {
-        let mut random = Random::new(seed);
-        Box::new(move |comparer| random.round(comparer))
-    },
-    rounds: 300,
-    alone: 5_000,
-};
-
-/// The encoder beside right functions for the rest.
-fn with<E: Encoder>() -> Library {
-    Library { encoders: encoders::<E>(), ..RIGHT_LIBRARY }
-}
+const SEARCH: Search = encoding_search(fixed::run);
 
 #[test]
 fn a_right_encoder_has_no_difference() {
-    SEARCH.finds_nothing(with::<Right>());
+    SEARCH.finds_nothing(with_encoder::<Right>());
 }
 
 /// An encoder that does some steps differently, and the smallest input that shows it.
@@ -39,7 +25,7 @@ macro_rules! wrong {
             impl Encoder for Wrong {
                 $($steps)*
             }
-            SEARCH.finds(with::<Wrong>(), $smallest);
+            SEARCH.finds(with_encoder::<Wrong>(), $smallest);
         }
     };
 }
@@ -1060,7 +1046,7 @@ macro_rules! wrong_in_fixed {
             impl Encoder for Wrong {
                 $($steps)*
             }
-            SEARCH.finds_in_fixed(with::<Wrong>(), $smallest);
+            SEARCH.finds_in_fixed(with_encoder::<Wrong>(), $smallest);
         }
     };
 }
@@ -1082,7 +1068,7 @@ macro_rules! wrong_in_large {
             impl Encoder for Wrong {
                 $($steps)*
             }
-            assert!(fixed::run(&mut Comparer::new(with::<Wrong>())).is_err(), "nothing is found");
+            assert!(fixed::run(&mut Comparer::new(with_encoder::<Wrong>())).is_err(), "nothing is found");
         }
     };
 }

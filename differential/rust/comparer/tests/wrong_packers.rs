@@ -4,10 +4,9 @@ mod support;
 
 use comparer::case::MAX_SIDE;
 use comparer::packing::fixed;
-use comparer::packing::random::Random;
-use comparer::{Function, Library};
+use comparer::Function;
 use std::cell::RefCell;
-use support::{exported, first_refused, Call, Search, Slices, RIGHT_LIBRARY};
+use support::{delta, exported, first_refused, packing_search, with_packer, Call, Search, Slices};
 
 const RIGHT: u8 = 0;
 const TWO_REPEATS_CLOSE: u8 = 1;
@@ -77,11 +76,9 @@ fn refused_at_entry<const MISTAKE: u8>(slices: &Slices, width: usize, height: us
 
 /// The code of a sample under another.
 fn code<const MISTAKE: u8>(upper: u8, lower: u8) -> u8 {
-    let d = lower.wrapping_sub(upper);
-    match d {
+    match lower.wrapping_sub(upper) {
         128 if MISTAKE == DELTA_SIGN => 0,
-        0..128 => d << 1,
-        _ => (!d << 1) | 1,
+        _ => delta(upper, lower),
     }
 }
 
@@ -263,28 +260,15 @@ fn finish<const MISTAKE: u8>(slices: &Slices, width: usize, height: usize, writt
     written as i64
 }
 
-const SEARCH: Search = Search {
-    fixed: fixed::run,
-    random: |seed| {
-        let mut random = Random::new(seed);
-        Box::new(move |comparer| random.round(comparer))
-    },
-    rounds: 500,
-    alone: 20_000,
-};
-
-/// The packer beside a right unpacker.
-fn with(pack: Function) -> Library {
-    Library { pack, ..RIGHT_LIBRARY }
-}
+const SEARCH: Search = packing_search(fixed::run);
 
 fn is_found(packer: Function, smallest: &str) {
-    SEARCH.finds(with(packer), smallest);
+    SEARCH.finds(with_packer(packer), smallest);
 }
 
 #[test]
 fn a_right_packer_has_no_difference() {
-    SEARCH.finds_nothing(with(exported::<Packer<RIGHT>>));
+    SEARCH.finds_nothing(with_packer(exported::<Packer<RIGHT>>));
 }
 
 #[test]
@@ -450,7 +434,7 @@ fn sixteen_raw_bytes_in_one_segment() {
 /// Its answer depends on the call before, so there is no smallest input.
 #[test]
 fn a_row_kept_from_the_plane_before() {
-    assert!(SEARCH.difference_in(with(exported::<Packer<ROW_KEPT>>)).is_some());
+    assert!(SEARCH.difference_in(with_packer(exported::<Packer<ROW_KEPT>>)).is_some());
     KEPT.take();
-    assert!(SEARCH.random_difference_in(with(exported::<Packer<ROW_KEPT>>)).is_some());
+    assert!(SEARCH.random_difference_in(with_packer(exported::<Packer<ROW_KEPT>>)).is_some());
 }

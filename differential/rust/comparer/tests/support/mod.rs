@@ -4,10 +4,12 @@
 
 pub mod decoder;
 pub mod encoder;
+pub mod packer;
+pub mod stored;
 
 use comparer::report::report;
 use comparer::shrink::{shrink_within, LIMIT};
-use comparer::unpacking::random::Random;
+use comparer::{encoding, packing, unpacking};
 use comparer::{Case, Comparer, Difference, Function, Library, Outcome};
 
 /// The buffers of one call. Indices are not checked: a planted mistake may be out of bounds, as it would be in a library.
@@ -118,6 +120,16 @@ pub fn undelta(code: u8) -> u8 {
     }
 }
 
+/// The delta code of a sample below another.
+pub fn delta(upper: u8, lower: u8) -> u8 {
+    let d = lower.wrapping_sub(upper);
+    if d < 128 {
+        2 * d
+    } else {
+        2 * (255 - d) + 1
+    }
+}
+
 /// The order in which the refusals at entry are tested: zero, large, short.
 pub fn first_refused(tests: [(bool, i64); 3], order: [usize; 3]) -> i64 {
     order.iter().map(|&at| tests[at]).find(|test| test.0).map_or(0, |test| test.1)
@@ -146,7 +158,7 @@ pub const fn unpacking_search(fixed: fn(&mut Comparer) -> Outcome) -> Search {
     Search {
         fixed,
         random: |seed| {
-            let mut random = Random::new(seed);
+            let mut random = unpacking::random::Random::new(seed);
             Box::new(move |comparer| random.round(comparer))
         },
         rounds: 2000,
@@ -154,9 +166,45 @@ pub const fn unpacking_search(fixed: fn(&mut Comparer) -> Outcome) -> Search {
     }
 }
 
+/// The same for packing planes.
+pub const fn packing_search(fixed: fn(&mut Comparer) -> Outcome) -> Search {
+    Search {
+        fixed,
+        random: |seed| {
+            let mut random = packing::random::Random::new(seed);
+            Box::new(move |comparer| random.round(comparer))
+        },
+        rounds: 500,
+        alone: 20_000,
+    }
+}
+
+/// The same for packing pictures.
+pub const fn encoding_search(fixed: fn(&mut Comparer) -> Outcome) -> Search {
+    Search {
+        fixed,
+        random: |seed| {
+            let mut random = encoding::random::Random::new(seed);
+            Box::new(move |comparer| random.round(comparer))
+        },
+        rounds: 300,
+        alone: 5_000,
+    }
+}
+
 /// The unpacker beside a right packer.
 pub fn with_unpacker(unpack: Function) -> Library {
     Library { unpack, ..RIGHT_LIBRARY }
+}
+
+/// The packer beside a right unpacker.
+pub fn with_packer(pack: Function) -> Library {
+    Library { pack, ..RIGHT_LIBRARY }
+}
+
+/// The encoder beside right functions for the rest.
+pub fn with_encoder<E: encoder::Encoder>() -> Library {
+    Library { encoders: encoder::encoders::<E>(), ..RIGHT_LIBRARY }
 }
 
 impl Search {
