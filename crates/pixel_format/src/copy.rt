@@ -6,6 +6,7 @@ ghost use Rattle.rle_format.specs.Slice.{overwrite, writeAt};
 ghost use Rattle.pixel_format.specs.Channel.{bgrA, offsetOf, strided};
 use crate::BgrAChannels;
 use crate::Channel;
+use crate::words::copy_block;
 
 // The offset of a channel in a pixel. Callers need the second clause for their indices.
 pub(crate) fn offset_of(channel: Channel) -> usize
@@ -55,16 +56,30 @@ fn copy_rest(pixels: &[u8], offset: usize, from: usize, n: usize, dst: &mut [u8]
     }
 }
 
-// Copies the bytes at `offset` of n pixels, from pixel `from` on, to the start of dst: four at a time, then the rest. The stride is a
-// constant so that the compiler can compute with it.
+// The same for n pixels, four at a time, then the rest.
+fn copy_by_fours(pixels: &[u8], offset: usize, from: usize, n: usize, dst: &mut [u8], at: usize)
+    requires { ⌜ (offset < 4) × (from + n ≤ length (now pixels) / 4) × (at + n ≤ length (now dst)) ⌝ }
+    ensures { λ _. ⌜ now (dst .exit) ≡ writeAt (now (dst .entry)) at (take n (drop from (strided 4 offset (length (now (pixels .entry)) / 4) (now (pixels .entry))))) ⌝ }
+{
+    let mut i = 0;
+    while 4 <= n - i {
+        copy_four(pixels, offset, from + i, dst, at + i);
+        i += 4;
+    }
+    copy_rest(pixels, offset, from + i, n - i, dst, at + i);
+}
+
+// Copies the bytes at `offset` of n pixels, from pixel `from` on, to the start of dst: 16 at a time, then the rest. The stride is a constant
+// so that the compiler can compute with it.
 pub(crate) fn copy_channel(pixels: &[u8], offset: usize, from: usize, n: usize, dst: &mut [u8])
     requires { ⌜ (offset < 4) × (from + n ≤ length (now pixels) / 4) × (n ≤ length (now dst)) ⌝ }
     ensures { λ _. ⌜ now (dst .exit) ≡ overwrite (now (dst .entry)) (take n (drop from (strided 4 offset (length (now (pixels .entry)) / 4) (now (pixels .entry))))) ⌝ }
 {
+    let mut words = [0u32; 16];
     let mut i = 0;
-    while 4 <= n - i {
-        copy_four(pixels, offset, from + i, dst, i);
-        i += 4;
+    while 16 <= n - i {
+        copy_block(pixels, offset, from + i, dst, i, &mut words);
+        i += 16;
     }
-    copy_rest(pixels, offset, from + i, n - i, dst, i);
+    copy_by_fours(pixels, offset, from + i, n - i, dst, i);
 }

@@ -1,5 +1,6 @@
 // Sources of a picture that is packed (FORMAT 7.1): each channel in a slice of its own, or all of them in one slice of pixels.
 mod copy;
+mod words;
 
 ghost use mathlib.Core.Path.{_≡_};
 ghost use lib.ListN.{length, take, drop};

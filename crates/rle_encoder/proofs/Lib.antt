@@ -1,2 +1,11 @@
 mod Replaced
 mod Rows
+mod Below
+mod Words
+mod Flags
+mod Put
+mod Steps
+mod Cut
+mod Flagged
+mod PutRow
+mod Copied

@@ -4,7 +4,7 @@ use mathlib.Core.List.{List, [], _++_, append-assoc, append-nil}
 use Prim.Native.Nat.{ℕ, zero, suc, _+_, _*_, _-_, _≤_, _<_}
 use native.Mathlib.Nat.{mul-comm, mul-le-mul-right}
 use native.Mathlib.Omega.{arith}
-use lib.ListN.{length, take, drop, length-append, length-drop}
+use lib.ListN.{length, take, drop, length-drop}
 use lib.Seq.{take-at, length-take-le}
 use Rattle.rle_format.specs.declared.Packed.{Packed}
 use Rattle.rle_format.specs.Slice.{overwrite}
@@ -13,7 +13,7 @@ use Rattle.rle_format.specs.Segment.{Segment}
 use Rattle.rle_format.specs.Pack.{rowSegments, rowAt, codesAt, planeSegments}
 use Rattle.rle_format.proofs.Delta.{length-zipWith}
 use Rattle.rle_format.proofs.Slice.{overwrite-all}
-use Rattle.rle_encoder.specs.CodeRow.{codeRow}
+use Rattle.rle_encoder.specs.CodeRow.{codeRow, HasRowAbove}
 use Rattle.rle_format.specs.Written.{answerAt, sliceAt}
 use Rattle.rle_format.proofs.WriteLoop.{Wrote}
 
@@ -56,27 +56,24 @@ module _ (width : ℕ) (samples : List ℕ) where
 
 -- ---- the first bytes of a local array, passed as `&mut d[0..n]`
 
-abbrev pub arrayPrefix : (d : List ℕ) (n : ℕ) → List ℕ
+abbrev arrayPrefix : (d : List ℕ) (n : ℕ) → List ℕ
 arrayPrefix d n = take (n - 0) (drop 0 d)
 
 -- and the array after the call, which left ys in them
-abbrev pub replacePrefix : (d : List ℕ) (n : ℕ) (ys : List ℕ) → List ℕ
+abbrev replacePrefix : (d : List ℕ) (n : ℕ) (ys : List ℕ) → List ℕ
 replacePrefix d n ys = take 0 d ++ (ys ++ drop (n - 0) (drop 0 d))
 
 arrayPrefix-take : (d : List ℕ) (n : ℕ) → arrayPrefix d n ≡ take n d
 arrayPrefix-take d n = let z : n - 0 ≡ n = omega arith in ap (λ (k : ℕ). take k d) z
 
-pub length-arrayPrefix : (d : List ℕ) (n : ℕ) → n ≤ length d → length (arrayPrefix d n) ≡ n
+length-arrayPrefix : (d : List ℕ) (n : ℕ) → n ≤ length d → length (arrayPrefix d n) ≡ n
 length-arrayPrefix d n h = ap length (arrayPrefix-take d n) ∙ length-take-le n d h
 
 take-replacePrefix : (d : List ℕ) (n : ℕ) (ys : List ℕ) → length ys ≡ n → take n (replacePrefix d n ys) ≡ ys
 take-replacePrefix d n ys e = take-at ys (drop (n - 0) d) n e
 
-pub arrayPrefix-replacePrefix : (d : List ℕ) (n : ℕ) (ys : List ℕ) → length ys ≡ n → arrayPrefix (replacePrefix d n ys) n ≡ ys
+arrayPrefix-replacePrefix : (d : List ℕ) (n : ℕ) (ys : List ℕ) → length ys ≡ n → arrayPrefix (replacePrefix d n ys) n ≡ ys
 arrayPrefix-replacePrefix d n ys e = arrayPrefix-take (replacePrefix d n ys) n ∙ take-replacePrefix d n ys e
-
-pub length-replacePrefix : (d : List ℕ) (n : ℕ) (ys : List ℕ) → n ≤ length d → length ys ≡ n → length (replacePrefix d n ys) ≡ length d
-length-replacePrefix d n ys h e = simp (length-append, length-drop) (omega arith)
 
 -- ---- a row, read and coded
 
@@ -107,11 +104,7 @@ length-codeRow : (r : ℕ) (above row : List ℕ) → length above ≡ length ro
 length-codeRow zero above row e = refl
 length-codeRow (suc r) above row e = length-zipWith deltaCode above row e
 
--- an array has the samples of the row above row r, if there is one
-abbrev pub HasRowAbove : (width : ℕ) (samples : List ℕ) (r : ℕ) (above : List ℕ) → Type 0
-HasRowAbove width samples r above = 0 < r → take width above ≡ rowAt width samples (r - 1)
-
--- so that its coded values are those of the plane's row
+-- where an array has the samples of the row above, a row's coded values are those of the plane's row
 codeRow-codesAt : (width : ℕ) (samples : List ℕ) (r : ℕ) (above : List ℕ) → HasRowAbove width samples r above
     → codeRow r (take width above) (rowAt width samples r) ≡ codesAt width samples r
 unfolding codesAt
@@ -120,39 +113,28 @@ codeRow-codesAt width samples (suc r) above h =
     let e : suc r - 1 ≡ r = omega arith in
     ap (λ (l : List ℕ). zipWith deltaCode l (rowAt width samples (suc r))) (h (omega arith) ∙ ap (rowAt width samples) e)
 
--- two arrays of n bytes after row r was read and coded
-pub record RowCoded (width n : ℕ) (samples : List ℕ) (r : ℕ) (above codes : List ℕ) : Type 0 where
-  pub row : arrayPrefix codes width ≡ codesAt width samples r
-  pub kept : HasRowAbove width samples (r + 1) above
-  pub len-above : length above ≡ n
-  pub len-codes : length codes ≡ n
-
--- that holds if `got` was read into the first array, which then became `new`, and the second became `sampled`
-pub row-coded : (width n : ℕ) (samples : List ℕ) (r : ℕ) (above codes got new sampled : List ℕ) → width ≤ n → length above ≡ n → length codes ≡ n
+-- two arrays after row r was read and coded: `got` was read into the first, which then became `new`, and the second became `sampled`
+pub row-coded : (width : ℕ) (samples : List ℕ) (r : ℕ) (above codes got new sampled : List ℕ) → width ≤ length above → width ≤ length codes
     → r * width + width ≤ length samples → HasRowAbove width samples r above
     → got ≡ overwrite (arrayPrefix codes width) (take (length (arrayPrefix codes width)) (drop (r * width) samples))
     → new ≡ codeRow r (arrayPrefix above width) (arrayPrefix (replacePrefix codes width got) width) → sampled ≡ arrayPrefix (replacePrefix codes width got) width
-    → RowCoded width n samples r (replacePrefix above width sampled) (replacePrefix (replacePrefix codes width got) width new)
-row-coded width n samples r above codes got new sampled fits na nc h has eg en es =
+    → (take width (replacePrefix (replacePrefix codes width got) width new) ≡ codesAt width samples r) × HasRowAbove width samples (r + 1) (replacePrefix above width sampled)
+row-coded width samples r above codes got new sampled na nc h has eg en es =
     let long = length-rowAt width samples r h in
-    let read : got ≡ rowAt width samples r = read-row width samples r (arrayPrefix codes width) got (length-arrayPrefix codes width (omega arith)) h eg in
+    let read : got ≡ rowAt width samples r = read-row width samples r (arrayPrefix codes width) got (length-arrayPrefix codes width nc) h eg in
     let lg : length got ≡ width = ap length read ∙ long in
-    let borrowed : arrayPrefix (replacePrefix codes width got) width ≡ rowAt width samples r = arrayPrefix-replacePrefix codes width got lg ∙ read in
-    let up : length (take width above) ≡ length (rowAt width samples r) = length-take-le width above (omega arith) ∙ sym long in
-    let is : new ≡ codeRow r (take width above) (rowAt width samples r) = en ∙ (λ i. codeRow r (arrayPrefix-take above width i) (borrowed i)) in
+    let lent : arrayPrefix (replacePrefix codes width got) width ≡ rowAt width samples r = arrayPrefix-replacePrefix codes width got lg ∙ read in
+    let up : length (take width above) ≡ length (rowAt width samples r) = length-take-le width above na ∙ sym long in
+    let is : new ≡ codeRow r (take width above) (rowAt width samples r) = en ∙ (λ i. codeRow r (arrayPrefix-take above width i) (lent i)) in
     let ln : length new ≡ width = ap length is ∙ length-codeRow r (take width above) (rowAt width samples r) up ∙ long in
-    let ls : length sampled ≡ width = ap length (es ∙ borrowed) ∙ long in
-    let last : r ≡ r + 1 - 1 = omega arith in
-    let mid : length (replacePrefix codes width got) ≡ n = length-replacePrefix codes width got (omega arith) lg ∙ nc in
-    record {
-      row = arrayPrefix-replacePrefix (replacePrefix codes width got) width new ln ∙ is ∙ codeRow-codesAt width samples r above has;
-      kept = λ _. take-replacePrefix above width sampled ls ∙ es ∙ borrowed ∙ ap (rowAt width samples) last;
-      len-above = length-replacePrefix above width sampled (omega arith) ls ∙ na;
-      len-codes = length-replacePrefix (replacePrefix codes width got) width new (omega arith) ln ∙ mid;
-    }
+    let ls : length sampled ≡ width = ap length (es ∙ lent) ∙ long in
+    let last : r ≡ r + 1 - 1 = omega arith in (
+      take-replacePrefix (replacePrefix codes width got) width new ln ∙ is ∙ codeRow-codesAt width samples r above has,
+      λ _. take-replacePrefix above width sampled ls ∙ es ∙ lent ∙ ap (rowAt width samples) last,
+    )
 
--- so that the plane's row is packed
-pub row-written : {width n : ℕ} {samples : List ℕ} {r : ℕ} {above codes : List ℕ} (row : RowCoded width n samples r above codes) (d now : List ℕ) (to : ℕ) (answer : Packed)
-    → Wrote (rowSegments (arrayPrefix codes width)) d now to answer → Wrote (rowSegments (codesAt width samples r)) d now to answer
-row-written row d now to answer w =
-    (w .0 ∙ ap (λ (l : List ℕ). answerAt (rowSegments l) d to) (row .row), w .1 ∙ ap (λ (l : List ℕ). sliceAt (rowSegments l) d to) (row .row))
+-- the row that is packed is the row of the plane
+pub row-written : (width : ℕ) (samples : List ℕ) (r : ℕ) (codes : List ℕ) → take width codes ≡ codesAt width samples r → (d now : List ℕ) (to : ℕ) (answer : Packed)
+    → Wrote (rowSegments (take width codes)) d now to answer → Wrote (rowSegments (codesAt width samples r)) d now to answer
+row-written width samples r codes row d now to answer w =
+    (w .0 ∙ ap (λ (l : List ℕ). answerAt (rowSegments l) d to) row, w .1 ∙ ap (λ (l : List ℕ). sliceAt (rowSegments l) d to) row)

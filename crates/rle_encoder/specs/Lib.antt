@@ -1,1 +1,3 @@
 pub mod CodeRow
+pub mod Put
+pub mod RunFlags

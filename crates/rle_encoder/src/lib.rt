@@ -1,39 +1,117 @@
 // Packs an RLE plane (FORMAT 5; MS-RDPEGDI 3.1.9.2): the encoding half of IronRDP's rdp6/rle.rs.
 mod delta;
+mod row;
+mod runs;
+mod segment;
 
 ghost use mathlib.Core.Path.{_≡_};
-ghost use Prim.Native.Nat.{_*_, _≤_, _<_};
+ghost use Prim.Native.Nat.{_+_, _*_, _/_, _≤_};
 ghost use lib.ListN.{length};
 ghost use Rattle.rle_format.specs.Answer.{packedToAnswer};
 ghost use Rattle.rle_format.specs.Slice.{overwrite};
-ghost use Rattle.rle_format.specs.Pack.{rowSegments, planeSegments, writeSegments, packPlane};
-ghost use Rattle.rle_format.specs.Written.{answerAt, sliceAt};
+ghost use Rattle.rle_format.specs.Pack.{planeSegments, writeSegments, packPlane};
 ghost use Rattle.pixel_format.specs.Channel.{samplesOf};
-use delta::code_scanline;
+use delta::code_row;
 use pixel_format::Channel;
 use pixel_format::Layout;
-use pixel_format::read_samples;
 use pixel_format::sample_count;
 use rle_format::MAX_SIDE;
 use rle_format::Packed;
 use rle_format::Refusal;
-use rle_scanline_encoder::encode_scanline;
+use row::encode_next_row;
 
-// Packs a row into dst from index `at` on, and returns the index behind it.
-fn encode_next_row(codes: &[u8], dst: &mut [u8], at: usize) -> Packed
-    requires { ⌜ at ≤ length (now dst) ⌝ }
-    ensures answer { λ r. ⌜ packedToAnswer r ≡ answerAt (rowSegments (now (codes .entry))) (now (dst .entry)) at ⌝ }
-    ensures slice { λ _. ⌜ now (dst .exit) ≡ sliceAt (rowSegments (now (codes .entry))) (now (dst .entry)) at ⌝ }
+// The width up to which a plane is packed with small arrays: to fill the large ones with zeros takes longer than to pack a small plane.
+const NARROW: usize = 256;
+
+// Packs the rows of a channel, the first row first. The last three slices are lent to work in. They have the samples of the row above, if the
+// channel is in pixels; the coded values of a row, and 15 bytes that a copy of 16 may read; and the row's segments and flags.
+fn encode_rows(
+    src: &[u8],
+    layout: Layout,
+    channel: Channel,
+    width: usize,
+    height: usize,
+    dst: &mut [u8],
+    above: &mut [u8],
+    codes: &mut [u8],
+    packed: &mut [u8],
+) -> Packed
+    requires { ⌜ (width ≤ 8192) × (height ≤ 8192) × (width * height ≤ length (samplesOf layout channel (now src))) × (width ≤ length (now above)) × (width + 15 ≤ length (now codes)) × (width + width / 15 + 24 ≤ length (now packed)) ⌝ }
+    ensures answer { λ r. ⌜ packedToAnswer r ≡ writeSegments (planeSegments width height (samplesOf layout channel (now (src .entry)))) (length (now (dst .entry))) .answer ⌝ }
+    ensures slice { λ _. ⌜ now (dst .exit) ≡ overwrite (now (dst .entry)) (writeSegments (planeSegments width height (samplesOf layout channel (now (src .entry)))) (length (now (dst .entry))) .written) ⌝ }
 {
-    let answer = encode_scanline(codes, &mut dst[at..]);
-    let Packed::Written(bytes) = answer else {
-        return answer;
-    };
-    Packed::Written(at + bytes)
+    let mut to = 0;
+    let mut r = 0;
+    while r < height {
+        code_row(src, layout, channel, r, width, above, codes);
+        let answer = encode_next_row(codes, width, packed, dst, to);
+        let Packed::Written(next) = answer else {
+            return answer;
+        };
+        to = next;
+        r += 1;
+    }
+    Packed::Written(to)
 }
 
-// Packs the rows of a channel, the first row first. The samples of a row are read into a local array, whatever the layout, and then replaced by the
-// coded values; the second array keeps the samples for the row below.
+// Packs a plane of any width, with arrays for the widest.
+fn encode_wide(
+    src: &[u8],
+    layout: Layout,
+    channel: Channel,
+    dst: &mut [u8],
+    width: usize,
+    height: usize,
+) -> Packed
+    requires { ⌜ (width ≤ 8192) × (height ≤ 8192) × (width * height ≤ length (samplesOf layout channel (now src))) ⌝ }
+    ensures answer { λ r. ⌜ packedToAnswer r ≡ writeSegments (planeSegments width height (samplesOf layout channel (now (src .entry)))) (length (now (dst .entry))) .answer ⌝ }
+    ensures slice { λ _. ⌜ now (dst .exit) ≡ overwrite (now (dst .entry)) (writeSegments (planeSegments width height (samplesOf layout channel (now (src .entry)))) (length (now (dst .entry))) .written) ⌝ }
+{
+    let mut above = [0u8; MAX_SIDE];
+    let mut codes = [0u8; MAX_SIDE + 16];
+    let mut packed = [0u8; MAX_SIDE + 576];
+    encode_rows(
+        src,
+        layout,
+        channel,
+        width,
+        height,
+        dst,
+        &mut above,
+        &mut codes,
+        &mut packed,
+    )
+}
+
+// The same for a narrow plane, with arrays of its size.
+fn encode_narrow(
+    src: &[u8],
+    layout: Layout,
+    channel: Channel,
+    dst: &mut [u8],
+    width: usize,
+    height: usize,
+) -> Packed
+    requires { ⌜ (width ≤ 256) × (height ≤ 8192) × (width * height ≤ length (samplesOf layout channel (now src))) ⌝ }
+    ensures answer { λ r. ⌜ packedToAnswer r ≡ writeSegments (planeSegments width height (samplesOf layout channel (now (src .entry)))) (length (now (dst .entry))) .answer ⌝ }
+    ensures slice { λ _. ⌜ now (dst .exit) ≡ overwrite (now (dst .entry)) (writeSegments (planeSegments width height (samplesOf layout channel (now (src .entry)))) (length (now (dst .entry))) .written) ⌝ }
+{
+    let mut above = [0u8; NARROW];
+    let mut codes = [0u8; NARROW + 16];
+    let mut packed = [0u8; NARROW + 64];
+    encode_rows(
+        src,
+        layout,
+        channel,
+        width,
+        height,
+        dst,
+        &mut above,
+        &mut codes,
+        &mut packed,
+    )
+}
+
 fn encode(
     src: &[u8],
     layout: Layout,
@@ -42,25 +120,14 @@ fn encode(
     width: usize,
     height: usize,
 ) -> Packed
-    requires { ⌜ (0 < width) × (width ≤ 8192) × (height ≤ 8192) × (width * height ≤ length (samplesOf layout channel (now src))) ⌝ }
+    requires { ⌜ (width ≤ 8192) × (height ≤ 8192) × (width * height ≤ length (samplesOf layout channel (now src))) ⌝ }
     ensures answer { λ r. ⌜ packedToAnswer r ≡ writeSegments (planeSegments width height (samplesOf layout channel (now (src .entry)))) (length (now (dst .entry))) .answer ⌝ }
     ensures slice { λ _. ⌜ now (dst .exit) ≡ overwrite (now (dst .entry)) (writeSegments (planeSegments width height (samplesOf layout channel (now (src .entry)))) (length (now (dst .entry))) .written) ⌝ }
 {
-    let mut above = [0u8; MAX_SIDE];
-    let mut codes = [0u8; MAX_SIDE];
-    let mut to = 0;
-    let mut r = 0;
-    while r < height {
-        read_samples(src, layout, channel, r * width, &mut codes[0..width]);
-        code_scanline(r, &mut above[0..width], &mut codes[0..width]);
-        let answer = encode_next_row(&codes[0..width], dst, to);
-        let Packed::Written(next) = answer else {
-            return answer;
-        };
-        to = next;
-        r += 1;
+    if width <= NARROW {
+        return encode_narrow(src, layout, channel, dst, width, height);
     }
-    Packed::Written(to)
+    encode_wide(src, layout, channel, dst, width, height)
 }
 
 // Packs the first width × height samples of a channel into the first bytes of dst, and returns the number of bytes written. Refusals 1, 2, 11,

@@ -1,2 +1,2 @@
-mod Steps
-mod Scan
+pub mod Steps
+pub mod Scan

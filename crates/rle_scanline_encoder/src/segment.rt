@@ -1,5 +1,6 @@
-// Writing raw bytes and a run as segments (FORMAT 5.2, 5.3). Each function writes into dst from index `at` on, only complete segments, and returns
-// the index behind the last, or refusal 12 at the first that does not fit.
+// Writing raw bytes and a run as segments (FORMAT 5.2, 5.3). Each function with a destination writes into it from index `at` on, only complete
+// segments, and returns the index behind the last, or refusal 12 at the first that does not fit. rle_encoder, which writes segments where there
+// is room, divides a run by the same functions.
 ghost use mathlib.Core.Path.{_≡_};
 ghost use mathlib.Core.List.{[], _∷_};
 ghost use Prim.Native.Nat.{_≤_, _<_, min};
@@ -42,7 +43,7 @@ fn write_repeat(run: usize, dst: &mut [u8], at: usize) -> Packed
 }
 
 // How much of a long run goes into one segment.
-fn long_run_part(left: usize) -> usize
+pub fn long_run_part(left: usize) -> usize
     ensures { λ r. ⌜ r ≡ min left 47 ⌝ }
 {
     if left < MAX_DECODED_SEGMENT_SIZE {
@@ -53,16 +54,15 @@ fn long_run_part(left: usize) -> usize
 }
 
 // How many raw bytes the rest of a long run, 1 to 15 values, begins with: 1 to 3 values are all raw, 4 to 15 are one raw byte and a run.
-fn raw_count_of_rest(left: usize) -> usize
-    requires { ⌜ 0 < left ⌝ }
-    ensures few { λ r. ⌜ (0 < r) × (r ≤ 3) × (r ≤ left) ⌝ }
+pub fn raw_count_of_rest(left: usize) -> usize
+    ensures few { λ r. ⌜ (min left 1 ≤ r) × (r ≤ 3) × (r ≤ left) ⌝ }
     ensures part { λ r. ⌜ (left < 4 → r ≡ left) × (4 ≤ left → r ≡ 1) ⌝ }
 {
     if left < 4 { left } else { 1 }
 }
 
 // How much of a run goes into the segment with the raw bytes before it.
-fn short_run_part(run: usize) -> usize
+pub fn short_run_part(run: usize) -> usize
     ensures { λ r. ⌜ r ≡ min run 15 ⌝ }
 {
     if run < 15 { run } else { 15 }

@@ -41,7 +41,7 @@ returns-5 c =
     stop-writes-nothing _ _ _ (pack-short-source (a .width) (a .height) (length (a .dst .now)) (samplesOf (a .layout) (a .channel) (a .src .now)) (c .before .before .before .before .before .if1 .left) (c .before .before .before .before .if2 .left) (c .before .before .before .if3 .left) (c .before .before .if4 .left) (omega arith))
 
 encode-requires : tie.Need-encode-requires
-encode-requires c κs = let a = c .before .before .before .before .before .before .before .before .before .args in let count = c .before .before .sample-count .ensures (a .channel) in (omega arith, omega arith, omega arith, omega arith)
+encode-requires c κs = let a = c .before .before .before .before .before .before .before .before .before .args in let count = c .before .before .sample-count .ensures (a .channel) in (omega arith, omega arith, omega arith)
 
 same-length : tie.Need-same-length
 same-length c = search needs

@@ -5,9 +5,14 @@ use super::RETURN;
 use std::collections::{HashMap, HashSet};
 use std::process::{exit, Command};
 
-/// The functions that may call themselves, and how often one of them can stand on the stack. The segment writer calls the long-run
-/// writer, and that calls the segment writer again with a run of at most 15, which is not passed on.
-const WRITERS: [&str; 2] = ["::segment::encode_segment", "::segment::encode_long_sequence"];
+/// The functions that may call themselves, and how often one of them can stand on the stack. A segment writer calls the long-run writer
+/// beside it, and that calls the segment writer again with a run of at most 15, which is not passed on.
+const WRITERS: [&str; 4] = [
+    "::segment::encode_segment",
+    "::segment::encode_long_sequence",
+    "::segment::put_segment",
+    "::segment::put_long_sequence",
+];
 const LEVELS: usize = 2;
 
 /// What is called of the C library. It takes no stack but its return address.

@@ -1,10 +1,10 @@
--- `encode_next_row`: what was packed into a part of dst, as a write to dst. Assumes nothing.
+-- `encode_by_segments`: what was packed into the part that was borrowed, as a write of the whole. Assumes nothing.
 use native.Mathlib.Omega.{arith}
 use Rattle.rle_format.specs.Pack.{rowSegments}
 use Rattle.rle_format.proofs.WriteLoop.{part-refused, part-written, part-within}
 use borrow.Author.Needs.{needs}
-use Rattle.rle_encoder.proofs.encode_next_row.Statement.{statement}
-use Rattle.rle_encoder.proofs.encode_next_row.Tie as tie
+use Rattle.rle_encoder.proofs.row.encode_by_segments.Statement.{statement}
+use Rattle.rle_encoder.proofs.row.encode_by_segments.Tie as tie
 
 sub-encode-scanline : tie.Need-sub-encode-scanline
 sub-encode-scanline c = search needs
@@ -49,8 +49,8 @@ returns-2 c =
     let row = c .before .before .before .before .before .encode-scanline in
     part-written (rowSegments (a .codes .now)) (a .dst .now) _ (a .at) (row .result) (row .ensures .0) (row .ensures .1) (c .before .answer .given .0 .0) (c .before .answer .given .1)
 
-pub encode-next-row-spec : {M : Type 1} → statement M
-encode-next-row-spec =
+pub encode-by-segments-spec : {M : Type 1} → statement M
+encode-by-segments-spec =
     tie.close
     (tie.spec
     sub-encode-scanline
