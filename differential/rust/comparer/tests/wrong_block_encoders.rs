@@ -1,4 +1,4 @@
-//! The comparer must find every one of these mistakes in an encoder that reads a channel of 64 pixels at once, then of four, then of single
+//! The comparer must find every one of these mistakes in an encoder that reads a channel of 16 pixels at once, then of four, then of single
 //! ones: in RLE pictures, whose rows are read one by one, and in raw ones, whose pixels are read together.
 
 mod support;
@@ -11,7 +11,7 @@ use support::{encoding_search, with_encoder, Search};
 const SEARCH: Search = encoding_search(blocks::run);
 
 /// The pixels of a block.
-const BLOCK: usize = 64;
+const BLOCK: usize = 16;
 
 /// Where a sample is among those that are read together: its index, how many there are, and how many of them are in complete blocks.
 struct Place {
@@ -69,9 +69,9 @@ macro_rules! wrong {
 }
 
 wrong!(
-    the_65th_pixel_left_out,
-    "pb 22 3 0 0 00*256,0100*7 EE*199",
-    "pb 65 1 1 0 00*258,0100 EE*5",
+    the_17th_pixel_left_out,
+    "pb 6 3 0 0 00*65,0100*6 EE*55",
+    "pb 17 1 1 0 00*66,0100 EE*4",
     |call, channel, at, place| match place.index {
         BLOCK => 0,
         _ => Right::sample(call, channel, at),
@@ -80,8 +80,8 @@ wrong!(
 
 wrong!(
     leftover_pixels_written_over_the_first,
-    "pb 22 3 0 0 000100*262 EE*199",
-    "pb 65 1 1 0 00000100*257 EEEE",
+    "pb 6 3 0 0 00*5,0100*66 EE*55",
+    "pb 17 1 1 0 00000100*65 EEEE",
     |call, channel, at, place| {
         if place.is_left_over() {
             return 0;
@@ -93,8 +93,8 @@ wrong!(
 
 wrong!(
     leftover_pixels_read_from_the_first,
-    "pb 22 3 0 0 000100*262 EE*199",
-    "pb 65 1 1 0 00000100*257 EE*6",
+    "pb 6 3 0 0 00*5,0100*66 EE*55",
+    "pb 17 1 1 0 00000100*65 EEEEEE",
     |call, channel, at, place| {
         Right::sample(call, channel, if place.is_left_over() { at - place.blocks } else { at })
     }
@@ -102,8 +102,8 @@ wrong!(
 
 wrong!(
     every_block_read_from_the_first_pixels,
-    "pb 43 3 0 0 00*430,0100*85 EE*388",
-    "pb 128 1 1 0 00*486,0100*25 EE*5",
+    "pb 11 3 0 0 00*105,0100*26 EE*100",
+    "pb 32 1 1 0 00*26,0100*101 EE*5",
     |call, channel, at, place| {
         let in_a_block = place.index < place.blocks;
         Right::sample(call, channel, if in_a_block { at - place.index / BLOCK * BLOCK } else { at })
@@ -112,8 +112,8 @@ wrong!(
 
 wrong!(
     a_neighbouring_channel_in_the_last_block,
-    "pb 22 3 0 0 00*181,0100*82 EE*199",
-    "pb 64 1 1 0 00*14,0100*241 EEEE",
+    "pb 6 3 0 0 00*53,0100*18 EE*55",
+    "pb 16 1 1 0 00*58,0100*5 EEEE",
     |call, channel, at, place| {
         let in_the_last = place.index < place.blocks && place.index + BLOCK >= place.blocks;
         Right::sample(call, if in_the_last { neighbour(channel) } else { channel }, at)
@@ -122,8 +122,8 @@ wrong!(
 
 wrong!(
     a_neighbouring_channel_behind_the_blocks,
-    "pb 22 3 0 0 00*262,0100 EE*199",
-    "pb 65 1 1 0 00*259,01 EE*5",
+    "pb 6 3 0 0 00*71,01 EE*55",
+    "pb 17 1 1 0 00*67,01 EE*4",
     |call, channel, at, place| {
         Right::sample(call, if place.is_left_over() { neighbour(channel) } else { channel }, at)
     }
@@ -131,8 +131,8 @@ wrong!(
 
 wrong!(
     alpha_of_a_block_with_its_highest_bit_lost,
-    "pb 22 3 0 1 00*135,8000*128 EE*265",
-    "pb 64 1 1 1 00*31,8000*224 EEEE",
+    "pb 6 3 0 1 0000008000*68 EE*73",
+    "pb 16 1 1 1 00*59,8000*4 EEEE",
     |call, channel, at, place| {
         let lost = channel == A && place.index < place.blocks;
         Right::sample(call, channel, at) & if lost { 0x7F } else { 0xFF }
@@ -141,8 +141,8 @@ wrong!(
 
 wrong!(
     the_last_1_to_3_pixels_left_out,
-    "pb 22 3 0 0 00*262,0100 EE*199",
-    "pb 65 1 1 0 00*258,0100 EE*5",
+    "pb 6 3 0 0 00*70,0100 EE*55",
+    "pb 17 1 1 0 00*66,0100 EE*4",
     |call, channel, at, place| {
         let left_out = place.is_left_over() && place.index >= place.count / 4 * 4;
         if left_out {
@@ -153,20 +153,15 @@ wrong!(
     }
 );
 
-wrong!(
-    four_pixels_read_past_the_last,
-    "pb 22 3 0 0 00*264 EE*199",
-    "pb 65 1 1 0 00*260 -",
-    |call, channel, at, place| {
-        if place.is_left_over() {
-            let last = at - place.index + place.count.next_multiple_of(4) - 1;
-            call.slices()[0].read(4 * last);
-        }
-        Right::sample(call, channel, at)
+wrong!(four_pixels_read_past_the_last, "pb 6 3 0 0 00*72 EE*55", "pb 17 1 1 0 00*68 -", |call, channel, at, place| {
+    if place.is_left_over() {
+        let last = at - place.index + place.count.next_multiple_of(4) - 1;
+        call.slices()[0].read(4 * last);
     }
-);
+    Right::sample(call, channel, at)
+});
 
-wrong!(a_block_read_past_the_last, "pb 22 3 0 0 00*264 EE*199", "pb 65 1 1 0 00*260 -", |call, channel, at, place| {
+wrong!(a_block_read_past_the_last, "pb 6 3 0 0 00*72 EE*55", "pb 17 1 1 0 00*68 -", |call, channel, at, place| {
     if place.is_left_over() {
         let last = at - place.index + place.count.next_multiple_of(BLOCK) - 1;
         call.slices()[0].read(4 * last);

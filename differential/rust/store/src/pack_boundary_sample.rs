@@ -32,6 +32,7 @@ pub fn keep_all(stored: &mut Stored) {
     for width in WIDTHS.into_iter().chain(ARRAY_WIDTHS) {
         without_room(stored, width);
     }
+    far_runs(stored);
 }
 
 /// Small planes with every room: up to 9 values wide and 3 rows high with a run at the end, then some of 32 to 64 values.
@@ -142,5 +143,17 @@ fn without_room(stored: &mut Stored, width: usize) {
     let above = packed(&samples[..2 * width], width, 2).len();
     for room in rooms(&packing).into_iter().filter(|&room| above <= room) {
         stored.keep(width, *height, room, samples);
+    }
+}
+
+/// Runs whose end a search by 32 flags could pass, as the next run begins at once; and two runs behind many raw bytes, whose segments take
+/// several bytes more than they have values.
+fn far_runs(stored: &mut Stored) {
+    let after_runs = [8, 16, 20, 24, 25, 32, 40, 56].map(|first| near_runs(0..first, 0, 64, first % 3));
+    let after_raw = [60, 75, 120, 240].into_iter().flat_map(|raw| [0, 1, 3].map(|apart| (raw, apart)));
+    let after_raw = after_raw.map(|(raw, apart)| near_runs(raw..raw + 4, apart, 5, apart));
+    for row in after_runs.into_iter().chain(after_raw) {
+        let packing = packed(&row, row.len(), 1);
+        stored.keep(row.len(), 1, ample(&packing), &row);
     }
 }

@@ -1,4 +1,4 @@
-//! Pictures for an encoder that reads 64 pixels at once, then four, then single ones: rows of so many pixels and some more or less; and
+//! Pictures for an encoder that reads 16 or 64 pixels at once, then four, then single ones: rows of so many pixels and some more or less; and
 //! planes with runs at every place that matters to a packer (`packing::places`), other ones in each channel.
 
 use crate::check::{Comparer, Outcome};
@@ -17,14 +17,14 @@ use std::ops::Range;
 
 pub fn run(comparer: &mut Comparer) -> Outcome {
     let earlier = &mut Earlier::new();
-    let widths = FEW.chain(31..=33).chain(60..=70).chain(124..=132).chain(ARRAY_WIDTHS);
+    let widths = FEW.chain(15..=17).chain(31..=33).chain(60..=70).chain(124..=132).chain(ARRAY_WIDTHS);
     for width in widths {
         noise(comparer, earlier, width)?;
     }
     for width in FEW {
         runs(comparer, earlier, width, &every_run(width).collect::<Vec<_>>())?;
     }
-    for width in (31..=33).chain(63..=66).chain(127..=129).chain(ARRAY_WIDTHS) {
+    for width in (15..=17).chain(31..=33).chain(63..=66).chain(127..=129).chain(ARRAY_WIDTHS) {
         let all = (1..=12).chain(LENGTHS).flat_map(|length| outer_runs(width, length));
         // A seventh of them, in which every length is at some places.
         runs(comparer, earlier, width, &all.step_by(7).collect::<Vec<_>>())?;
