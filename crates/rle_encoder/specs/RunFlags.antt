@@ -46,6 +46,6 @@ eightAt flags at =
     ∷ getD flags (at + 7) 0
     ∷ []
 
--- they as one word
+-- these eight flags as one word
 unfoldable pub flagWord : (flags : List ℕ) (at : ℕ) → ℕ
 flagWord flags at = wordOf (eightAt flags at)

@@ -1,5 +1,5 @@
 // Where the runs of a row begin and end. A flag, one byte, says of each coded value whether it and the next three are equal. The search looks
-// at eight flags in one word.
+// at eight flags in one word, and skips 32 by the sum of four words.
 ghost use mathlib.Core.Path.{_≡_};
 ghost use Prim.Native.Nat.{ℕ, _+_, _/_, _≤_, _<_};
 ghost use lib.Count.{trailingZeros};
