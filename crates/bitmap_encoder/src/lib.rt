@@ -45,7 +45,7 @@ fn encoded(answer: Packed, alpha: bool, rle: bool) -> Encoded
 
 // Packs a picture from its R, G and B, each in a slice of its own, into the first bytes of dst. Refusals 1, 2, 11, then 12; FORMAT 8.3 says what
 // each leaves in dst.
-pub fn encode_channels_stream(
+pub fn encode_channels_body(
     r: &[u8],
     g: &[u8],
     b: &[u8],
@@ -62,7 +62,7 @@ pub fn encode_channels_stream(
 }
 
 // The same with an alpha plane, which is the first.
-pub fn encode_channels_stream_alpha(
+pub fn encode_channels_body_alpha(
     r: &[u8],
     g: &[u8],
     b: &[u8],
@@ -80,7 +80,13 @@ pub fn encode_channels_stream_alpha(
 }
 
 // Packs a picture from pixels of B, G, R, A, without their alpha.
-pub fn encode_bitmap(src: &[u8], dst: &mut [u8], rle: bool, width: usize, height: usize) -> Encoded
+pub fn encode_bitmap_body(
+    src: &[u8],
+    dst: &mut [u8],
+    rle: bool,
+    width: usize,
+    height: usize,
+) -> Encoded
     ensures answer { λ e. ⌜ encodedToAnswer e ≡ withHeader (headerToSend false rle) (packPicture rle width height (length (now (dst .entry))) (pixelPlanes bgrA (now (src .entry))) .answer) ⌝ }
     ensures slice { λ _. ⌜ now (dst .exit) ≡ overwrite (now (dst .entry)) (packPicture rle width height (length (now (dst .entry))) (pixelPlanes bgrA (now (src .entry))) .written) ⌝ }
 {
@@ -89,7 +95,7 @@ pub fn encode_bitmap(src: &[u8], dst: &mut [u8], rle: bool, width: usize, height
 }
 
 // The same with their alpha.
-pub fn encode_bitmap_alpha(
+pub fn encode_bitmap_body_alpha(
     src: &[u8],
     dst: &mut [u8],
     rle: bool,

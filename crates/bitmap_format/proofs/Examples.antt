@@ -1,4 +1,4 @@
--- The examples hold: one proof for planes and pictures that are unpacked, one for pictures that are packed.
+-- The examples hold: one proof for planes and pictures that are unpacked, one for pictures that are packed, one for streams.
 use mathlib.Core.Path.{_≡_, refl}
 use mathlib.Core.List.{map}
 use Rattle.rle_format.specs.Answer.{stop, prepend}
@@ -19,6 +19,9 @@ use Rattle.pixel_format.specs.Channel.{strided, channel}
 use Rattle.bitmap_format.specs.PackPicture.{pictureSegments, rawSamples, rawBody, writeAllOrNothing, anyShort, checkPack, packBody, packPicture, headerToSend}
 use Rattle.bitmap_format.specs.Examples.{examples, computed, expected}
 use Rattle.bitmap_format.specs.PackExamples as packed
+use Rattle.bitmap_format.specs.HeaderByte.{definitionFromByte, headerFromByte, definitionBits, headerToByte}
+use Rattle.bitmap_format.specs.Stream.{withoutPad, splitRest, splitStream, unpackSplit, unpackStreamBy, streamWorkSize, withHeaderByte, packStream}
+use Rattle.bitmap_format.specs.StreamExamples as streams
 
 pub examples-hold : map computed examples ≡ map expected examples
 unfolding packPlane writeSegments packing planeSegments codesAt rowAt rowSegments scanSegments splitSegments longRun deltaCode difference unpackPlane unpackRows readRow readSegment rawCount runLength undoDelta differenceFromCode checkSides stop prepend overwrite writeAt firstRefusal signedByte chromaValue clip ycocg aycocgColour chromaSide firstPlane secondPlane thirdPlane colourPlanes alphaPlanes planesOf sumOver minBodySize workSize rowSize imageSize sample chromaIndex colourAt concatUpTo imageRow writeRows addRead unpackPlanes isLossLevelInvalid checkPicture writeImage unpackRaw imageFromWork unpackRle unpackPicture
@@ -27,3 +30,7 @@ examples-hold = refl
 pub pack-examples-hold : map packed.computed packed.examples ≡ map packed.expected packed.examples
 unfolding writeSegments planeSegments codesAt rowAt rowSegments scanSegments splitSegments longRun deltaCode difference checkSides stop prepend overwrite firstRefusal strided channel pictureSegments rawSamples rawBody writeAllOrNothing anyShort checkPack packBody packPicture headerToSend
 pack-examples-hold = refl
+
+pub stream-examples-hold : map streams.computed streams.examples ≡ map streams.expected streams.examples
+unfolding writeSegments planeSegments codesAt rowAt rowSegments scanSegments splitSegments longRun deltaCode difference unpackPlane unpackRows readRow readSegment rawCount runLength undoDelta differenceFromCode checkSides stop prepend overwrite writeAt firstRefusal signedByte chromaValue clip ycocg aycocgColour chromaSide firstPlane secondPlane thirdPlane colourPlanes alphaPlanes planesOf sumOver minBodySize workSize rowSize imageSize sample chromaIndex colourAt concatUpTo imageRow writeRows addRead unpackPlanes isLossLevelInvalid checkPicture writeImage unpackRaw imageFromWork unpackRle unpackPicture pictureSegments rawSamples rawBody writeAllOrNothing anyShort checkPack packBody packPicture headerToSend definitionFromByte headerFromByte definitionBits headerToByte withoutPad splitRest splitStream unpackSplit unpackStreamBy streamWorkSize withHeaderByte packStream
+stream-examples-hold = refl

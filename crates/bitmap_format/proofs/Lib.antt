@@ -10,3 +10,8 @@ pub mod PictureChecks
 pub mod Picture
 pub mod PackPicture
 pub mod PackRoom
+pub mod HeaderByte
+pub mod Refusal3
+pub mod PackedBody
+pub mod EmptyDestination
+pub mod StreamClaims

@@ -18,7 +18,7 @@ abbrev pub workAfter : PlaneAt → (work body : List ℕ) → List ℕ
 workAfter p work body = writeAt work (p .offset) (unpackPlaneAt p work body .written)
 
 module _ (p : PlaneAt) (planes : List PlaneAt) (work body : List ℕ) where
-  unpackPlanes-read : (n : ℕ) → unpackPlaneAt p work body .answer ≡ counted n → unpackPlanes (p ∷ planes) work body ≡ addRead n (unpackPlanes planes (workAfter p work body) (drop n body))
+  pub unpackPlanes-read : (n : ℕ) → unpackPlaneAt p work body .answer ≡ counted n → unpackPlanes (p ∷ planes) work body ≡ addRead n (unpackPlanes planes (workAfter p work body) (drop n body))
   unfolding unpackPlanes
   unpackPlanes-read n e = cc e
 

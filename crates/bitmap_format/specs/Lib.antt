@@ -6,5 +6,9 @@ pub mod Image
 pub mod UnpackPlanes
 pub mod Picture
 pub mod PackPicture
+pub mod HeaderByte
+pub mod Stream
+pub mod StreamClaims
 pub mod Examples
 pub mod PackExamples
+pub mod StreamExamples

@@ -102,6 +102,11 @@ abbrev pub withHeader : BitmapStreamHeader → Answer → EncodedAnswer
 withHeader header (counted n) = encodedCount n header
 withHeader header (refused r) = encodedRefusal r
 
+-- the same answer without the header record
+abbrev pub dropHeader : EncodedAnswer → Answer
+dropHeader (encodedCount n header) = counted n
+dropHeader (encodedRefusal r) = refused r
+
 -- the answer of packing a picture
 abbrev pub encodedToAnswer : Encoded → EncodedAnswer
 encodedToAnswer (Written n header) = encodedCount n header

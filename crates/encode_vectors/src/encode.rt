@@ -292,7 +292,7 @@ fn call_with_channels(
     dst: &mut [u8],
 ) -> Encoded {
     if case.alpha {
-        return bitmap_encoder::encode_channels_stream_alpha(
+        return bitmap_encoder::encode_channels_body_alpha(
             r,
             g,
             b,
@@ -303,14 +303,20 @@ fn call_with_channels(
             case.height,
         );
     }
-    bitmap_encoder::encode_channels_stream(r, g, b, dst, case.rle, case.width, case.height)
+    bitmap_encoder::encode_channels_body(r, g, b, dst, case.rle, case.width, case.height)
 }
 
 fn call_with_pixels(case: Case, pixels: &[u8], dst: &mut [u8]) -> Encoded {
     if case.alpha {
-        return bitmap_encoder::encode_bitmap_alpha(pixels, dst, case.rle, case.width, case.height);
+        return bitmap_encoder::encode_bitmap_body_alpha(
+            pixels,
+            dst,
+            case.rle,
+            case.width,
+            case.height,
+        );
     }
-    bitmap_encoder::encode_bitmap(pixels, dst, case.rle, case.width, case.height)
+    bitmap_encoder::encode_bitmap_body(pixels, dst, case.rle, case.width, case.height)
 }
 
 fn answer_of_encoded(encoded: Encoded) -> Answer {

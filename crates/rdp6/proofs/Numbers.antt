@@ -20,19 +20,19 @@ use Rattle.bitmap_format.specs.Picture.{decodedToAnswer}
 use Rattle.bitmap_format.specs.declared.BitmapStreamHeader.{BitmapStreamHeader}
 use Rattle.bitmap_format.specs.declared.Encoded.{Encoded}
 use Rattle.bitmap_format.specs.declared.Encoded.the-variants as encoded
-use Rattle.bitmap_format.specs.PackPicture.{packPicture, withHeader, encodedToAnswer}
+use Rattle.bitmap_format.specs.PackPicture.{packPicture, withHeader, encodedToAnswer, dropHeader}
 use Rattle.bitmap_format.proofs.PackRoom.{packPicture-within}
-use Rattle.rdp6.specs.Number.{cNumber, dropHeader}
+use Rattle.rdp6.specs.Number.{cNumber}
 
 pub count-fits : (n : ℕ) → n < 9223372036854775808 → SFits w64 (pos n)
 count-fits n h = record { sfits = omega arith }
 
-pub refusal-fits : (r : ℕ) → r ≤ 12 → SFits w64 (negℤ (pos r))
+pub refusal-fits : (r : ℕ) → r ≤ 255 → SFits w64 (negℤ (pos r))
 refusal-fits zero h = record { sfits = omega arith }
 refusal-fits (suc r) h = record { sfits = omega arith }
 
 -- what the code computes of a refusal's number n, a byte that it has widened
-pub negated-number : (n r : ℕ) → n ≡ r → r ≤ 12 → pos 0 -ℤ toZ w64 n ≡ negℤ (pos r)
+pub negated-number : (n r : ℕ) → n ≡ r → r ≤ 255 → pos 0 -ℤ toZ w64 n ≡ negℤ (pos r)
 negated-number n r e h =
     let z : toZ w64 n ≡ pos n = toZ-pos w64 (omega arith) in
     ap (λ (k : ℤ). pos 0 -ℤ k) z ∙ +ℤ-idl (negℤ (pos n)) ∙ ap (λ (k : ℕ). negℤ (pos k)) e

@@ -12,8 +12,8 @@ ghost use Rattle.rle_format.specs.Pack.{packPlane};
 ghost use Rattle.bitmap_format.specs.Sizes.{workSize, imageSize};
 ghost use Rattle.bitmap_format.specs.Picture.{unpackPicture, decodedToAnswer};
 ghost use Rattle.pixel_format.specs.Channel.{bgrA};
-ghost use Rattle.bitmap_format.specs.PackPicture.{threePlanes, fourPlanes, pixelPlanes, pixelPlanesAlpha, packPicture, encodedToAnswer};
-ghost use Rattle.rdp6.specs.Number.{cNumber, dropHeader};
+ghost use Rattle.bitmap_format.specs.PackPicture.{threePlanes, fourPlanes, pixelPlanes, pixelPlanesAlpha, packPicture, encodedToAnswer, dropHeader};
+ghost use Rattle.rdp6.specs.Number.{cNumber};
 ghost use Rattle.rdp6.specs.Header.{cLevel, cDefinition, cHeader};
 use bitmap_format::BitmapStreamHeader;
 use bitmap_format::ColorPlaneDefinition;
@@ -189,7 +189,7 @@ pub extern "C" fn rdp6_image_size(width: usize, height: usize) -> usize
 }
 
 #[no_mangle]
-pub extern "C" fn rdp6_encode_channels_stream(
+pub extern "C" fn rdp6_encode_channels(
     r: &[u8],
     g: &[u8],
     b: &[u8],
@@ -201,12 +201,12 @@ pub extern "C" fn rdp6_encode_channels_stream(
     ensures answer { λ n. ⌜ n ≡ cNumber (packPicture rle width height (length (now (dst .entry))) (threePlanes (now (r .entry)) (now (g .entry)) (now (b .entry))) .answer) ⌝ }
     ensures slice { λ _. ⌜ now (dst .exit) ≡ overwrite (now (dst .entry)) (packPicture rle width height (length (now (dst .entry))) (threePlanes (now (r .entry)) (now (g .entry)) (now (b .entry))) .written) ⌝ }
 {
-    let answer = bitmap_encoder::encode_channels_stream(r, g, b, dst, rle, width, height);
+    let answer = bitmap_encoder::encode_channels_body(r, g, b, dst, rle, width, height);
     encoded_number(answer)
 }
 
 #[no_mangle]
-pub extern "C" fn rdp6_encode_channels_stream_alpha(
+pub extern "C" fn rdp6_encode_channels_alpha(
     r: &[u8],
     g: &[u8],
     b: &[u8],
@@ -219,7 +219,7 @@ pub extern "C" fn rdp6_encode_channels_stream_alpha(
     ensures answer { λ n. ⌜ n ≡ cNumber (packPicture rle width height (length (now (dst .entry))) (fourPlanes (now (r .entry)) (now (g .entry)) (now (b .entry)) (now (a .entry))) .answer) ⌝ }
     ensures slice { λ _. ⌜ now (dst .exit) ≡ overwrite (now (dst .entry)) (packPicture rle width height (length (now (dst .entry))) (fourPlanes (now (r .entry)) (now (g .entry)) (now (b .entry)) (now (a .entry))) .written) ⌝ }
 {
-    let answer = bitmap_encoder::encode_channels_stream_alpha(r, g, b, a, dst, rle, width, height);
+    let answer = bitmap_encoder::encode_channels_body_alpha(r, g, b, a, dst, rle, width, height);
     encoded_number(answer)
 }
 
@@ -234,7 +234,7 @@ pub extern "C" fn rdp6_encode_bitmap(
     ensures answer { λ n. ⌜ n ≡ cNumber (packPicture rle width height (length (now (dst .entry))) (pixelPlanes bgrA (now (src .entry))) .answer) ⌝ }
     ensures slice { λ _. ⌜ now (dst .exit) ≡ overwrite (now (dst .entry)) (packPicture rle width height (length (now (dst .entry))) (pixelPlanes bgrA (now (src .entry))) .written) ⌝ }
 {
-    let answer = bitmap_encoder::encode_bitmap(src, dst, rle, width, height);
+    let answer = bitmap_encoder::encode_bitmap_body(src, dst, rle, width, height);
     encoded_number(answer)
 }
 
@@ -249,6 +249,6 @@ pub extern "C" fn rdp6_encode_bitmap_alpha(
     ensures answer { λ n. ⌜ n ≡ cNumber (packPicture rle width height (length (now (dst .entry))) (pixelPlanesAlpha bgrA (now (src .entry))) .answer) ⌝ }
     ensures slice { λ _. ⌜ now (dst .exit) ≡ overwrite (now (dst .entry)) (packPicture rle width height (length (now (dst .entry))) (pixelPlanesAlpha bgrA (now (src .entry))) .written) ⌝ }
 {
-    let answer = bitmap_encoder::encode_bitmap_alpha(src, dst, rle, width, height);
+    let answer = bitmap_encoder::encode_bitmap_body_alpha(src, dst, rle, width, height);
     encoded_number(answer)
 }

@@ -1,11 +1,11 @@
--- The twelve numbers are different, so that a contract `toAnswer r ≡ a` or `packedToAnswer r ≡ a` determines r; and none is over 12.
+-- The numbers of the refusals are different, so that a contract `toAnswer r ≡ a` or `packedToAnswer r ≡ a` determines r; and each fits a byte.
 use mathlib.Core.Path.{_≡_, refl, sym, ap, _∙_}
 use Prim.Native.Nat.{ℕ, _≤_}
 use native.Mathlib.Omega.{arith}
 use lib.Dec.{eqb}
 use Rattle.rle_format.specs.Choice.{choose}
 use Rattle.rle_format.specs.declared.Refusal.{Refusal}
-use Rattle.rle_format.specs.declared.Refusal.the-variants.{ZeroSize, TooLarge, LossLevel, InvalidUncompressedDataSize, ShortWork, ShortImage, ReadCompressedData, InvalidSegmentHeader, SegmentDoNotFitScanline, ShortPlane, NotEnoughBytes, BufferTooSmall}
+use Rattle.rle_format.specs.declared.Refusal.the-variants.{ZeroSize, TooLarge, LossLevel, InvalidUncompressedDataSize, ShortWork, ShortImage, ReadCompressedData, InvalidSegmentHeader, SegmentDoNotFitScanline, ShortPlane, NotEnoughBytes, BufferTooSmall, EmptyStream, MissingPad}
 use Rattle.rle_format.specs.declared.Unpacked.{Unpacked}
 use Rattle.rle_format.specs.declared.Unpacked.the-variants as unpacked
 use Rattle.rle_format.specs.declared.Packed.{Packed}
@@ -30,7 +30,9 @@ refusalWithNumber n =
     (choose (eqb n 9) SegmentDoNotFitScanline
     (choose (eqb n 10) ShortPlane
     (choose (eqb n 11) NotEnoughBytes
-    BufferTooSmall))))))))))
+    (choose (eqb n 12) BufferTooSmall
+    (choose (eqb n 13) EmptyStream
+    MissingPad))))))))))))
 
 refusalWithNumber-number : (r : Refusal) → refusalWithNumber (number r) ≡ r
 refusalWithNumber-number ZeroSize = refl
@@ -45,8 +47,10 @@ refusalWithNumber-number SegmentDoNotFitScanline = refl
 refusalWithNumber-number ShortPlane = refl
 refusalWithNumber-number NotEnoughBytes = refl
 refusalWithNumber-number BufferTooSmall = refl
+refusalWithNumber-number EmptyStream = refl
+refusalWithNumber-number MissingPad = refl
 
-pub number-max : (r : Refusal) → number r ≤ 12
+pub number-max : (r : Refusal) → number r ≤ 255
 number-max ZeroSize = omega arith
 number-max TooLarge = omega arith
 number-max LossLevel = omega arith
@@ -59,6 +63,8 @@ number-max SegmentDoNotFitScanline = omega arith
 number-max ShortPlane = omega arith
 number-max NotEnoughBytes = omega arith
 number-max BufferTooSmall = omega arith
+number-max EmptyStream = omega arith
+number-max MissingPad = omega arith
 
 pub number-injective : (r s : Refusal) → number r ≡ number s → r ≡ s
 number-injective r s e = sym (refusalWithNumber-number r) ∙ ap refusalWithNumber e ∙ refusalWithNumber-number s

@@ -1,21 +1,23 @@
--- How long a packing can be. 15 raw bytes without a run take 16 bytes for 15 values, and a segment with a run of 3 or more takes fewer bytes
+-- How long a packing can be, and how short. 15 raw bytes without a run take 16 bytes for 15 values, and a segment with a run of 3 or more takes fewer bytes
 -- than it has values. Only the last segment of a row may be of neither kind. So the segments of n values, the last with a run of 3 or more,
 -- take at most 16 × n / 15 bytes, and those of a row at most one more.
 use mathlib.Core.Path.{_≡_}
-use mathlib.Core.Logic.{⊎-elim}
+use mathlib.Core.Logic.{⊎-elim, inl, inr}
 use mathlib.Core.List.{List, [], _∷_, _++_}
 use Prim.Native.Nat.{ℕ, zero, suc, _+_, _*_, _-_, _/_, _%_, _≤_, _<_, min}
-use native.Mathlib.Nat.{mul-comm}
+use native.Mathlib.Nat.{mul-comm, suc-mul}
 use native.Mathlib.Omega.{arith}
 use borrow.Author.Tests.{le-leb, lt-leb}
 use lib.ListN.{length, take, drop, replicate, length-append, length-take, length-drop, length-replicate}
 use Rattle.rle_format.specs.Delta.{deltaCode, zipWith}
-use Rattle.rle_format.specs.Segment.{Segment, lastOr, segmentsBytes}
+use Rattle.rle_format.specs.Segment.{Segment, Encodable, valueCount, segmentSize, lastOr, segmentsBytes}
 use Rattle.rle_format.specs.Pack.{literal, restOfRun, runsOf47, longRun, literalsOf15, splitSegments, scanSegments, rowSegments, rowAt, codesAt, planeSegments, packing}
 use Rattle.rle_format.proofs.Cases.{le-or-gt, eq-or-ne}
-use Rattle.rle_format.proofs.Segments.{segmentsBytes-append}
+use Rattle.rle_format.proofs.Segments.{segmentsCount, AllEncodable, segmentsBytes-append}
 use Rattle.rle_format.proofs.SegmentSteps.{scanSegments-repeat, scanSegments-close, scanSegments-join, scanSegments-end-run, scanSegments-end-raw}
 use Rattle.rle_format.proofs.Writing.{length-segmentsBytes}
+use Rattle.rle_format.proofs.RowSegments.{rowSegments-encodable, rowSegments-count}
+use Rattle.rle_format.proofs.RowAt.{length-codesAt}
 
 abbrev size : List Segment → ℕ
 size ss = length (segmentsBytes ss)
@@ -151,3 +153,36 @@ rows-size-max width (suc rows) samples =
 pub packing-size-max : (width height : ℕ) (samples : List ℕ) → length (packing width height samples) ≤ 2 * (width * height)
 unfolding packing
 packing-size-max width height samples = omega (arith, rows-size-max width height samples, mul-comm width height)
+
+-- ---- at least one byte for each 47 values of a row, since no segment has more (FORMAT 2.4)
+
+segment-values-max : (s : Segment) → Encodable s → valueCount s ≤ 47 * segmentSize s
+segment-values-max s (inl c) = omega arith
+segment-values-max s (inr c) = omega arith
+
+values-max : (ss : List Segment) → AllEncodable ss → segmentsCount ss ≤ 47 * size ss
+values-max [] v = omega arith
+values-max (s ∷ ss) v = omega (arith, segment-values-max s (v .0), values-max ss (v .1), length-segmentsBytes s ss)
+
+row-size-min : (width : ℕ) (samples : List ℕ) (r : ℕ) → suc r * width ≤ length samples → (width + 46) / 47 ≤ size (rowSegments (codesAt width samples r))
+row-size-min width samples r h =
+    let codes : List ℕ = codesAt width samples r in
+    let m = values-max (rowSegments codes) (rowSegments-encodable codes) in
+    omega (arith, rowSegments-count codes, length-codesAt width samples r h)
+
+rows-size-min : (width rows : ℕ) (samples : List ℕ) → rows * width ≤ length samples → rows * ((width + 46) / 47) ≤ size (planeSegments width rows samples)
+unfolding planeSegments
+rows-size-min width zero samples h = omega arith
+rows-size-min width (suc rows) samples h =
+    omega (
+      arith,
+      size-append (planeSegments width rows samples) (rowSegments (codesAt width samples rows)),
+      suc-mul rows width,
+      suc-mul rows ((width + 46) / 47),
+      rows-size-min width rows samples (omega (arith, suc-mul rows width)),
+      row-size-min width samples rows h,
+    )
+
+pub packing-size-min : (width height : ℕ) (samples : List ℕ) → width * height ≤ length samples → height * ((width + 46) / 47) ≤ length (packing width height samples)
+unfolding packing
+packing-size-min width height samples h = rows-size-min width height samples (omega (arith, mul-comm width height))

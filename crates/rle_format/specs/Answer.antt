@@ -2,7 +2,7 @@
 use Prim.Native.Nat.{ℕ, _+_}
 use mathlib.Core.List.{List, [], _++_}
 use Rattle.rle_format.specs.declared.Refusal.{Refusal}
-use Rattle.rle_format.specs.declared.Refusal.the-variants.{ZeroSize, TooLarge, LossLevel, InvalidUncompressedDataSize, ShortWork, ShortImage, ReadCompressedData, InvalidSegmentHeader, SegmentDoNotFitScanline, ShortPlane, NotEnoughBytes, BufferTooSmall}
+use Rattle.rle_format.specs.declared.Refusal.the-variants.{ZeroSize, TooLarge, LossLevel, InvalidUncompressedDataSize, ShortWork, ShortImage, ReadCompressedData, InvalidSegmentHeader, SegmentDoNotFitScanline, ShortPlane, NotEnoughBytes, BufferTooSmall, EmptyStream, MissingPad}
 use Rattle.rle_format.specs.declared.Unpacked.{Unpacked}
 use Rattle.rle_format.specs.declared.Unpacked.the-variants as unpacked
 use Rattle.rle_format.specs.declared.Packed.{Packed}
@@ -49,6 +49,8 @@ number SegmentDoNotFitScanline = 9
 number ShortPlane = 10
 number NotEnoughBytes = 11
 number BufferTooSmall = 12
+number EmptyStream = 13
+number MissingPad = 14
 
 -- the answer of unpacking a row or a plane
 abbrev pub toAnswer : Unpacked → Answer

@@ -4,7 +4,7 @@ use Prim.Native.Nat.{ℕ, zero, suc}
 use mathlib.Core.List.{List, [], _∷_, _++_, map}
 use lib.ListN.{length, replicate}
 use Rattle.rle_format.specs.declared.Refusal.{Refusal}
-use Rattle.rle_format.specs.declared.Refusal.the-variants.{ZeroSize, TooLarge, LossLevel, InvalidUncompressedDataSize, ShortWork, ShortImage, ReadCompressedData, InvalidSegmentHeader, SegmentDoNotFitScanline, ShortPlane, NotEnoughBytes, BufferTooSmall}
+use Rattle.rle_format.specs.declared.Refusal.the-variants.{ZeroSize, TooLarge, LossLevel, InvalidUncompressedDataSize, ShortWork, ShortImage, ReadCompressedData, InvalidSegmentHeader, SegmentDoNotFitScanline, ShortPlane, NotEnoughBytes, BufferTooSmall, EmptyStream, MissingPad}
 use Rattle.rle_format.specs.declared.Unpacked.{Unpacked}
 use Rattle.rle_format.specs.declared.Unpacked.the-variants as unpacked
 use Rattle.rle_format.specs.declared.Packed.{Packed}
@@ -151,7 +151,7 @@ refusalExamples =
 abbrev pub conversionExamples : List Example
 conversionExamples =
     writes (1 ∷ 2 ∷ 3 ∷ 4 ∷ []) 1 (8 ∷ 9 ∷ []) (1 ∷ 8 ∷ 9 ∷ 4 ∷ [])
-    ∷ numbers (ZeroSize ∷ TooLarge ∷ LossLevel ∷ InvalidUncompressedDataSize ∷ ShortWork ∷ ShortImage ∷ ReadCompressedData ∷ InvalidSegmentHeader ∷ SegmentDoNotFitScanline ∷ ShortPlane ∷ NotEnoughBytes ∷ BufferTooSmall ∷ []) (countFrom 1 12)
+    ∷ numbers (ZeroSize ∷ TooLarge ∷ LossLevel ∷ InvalidUncompressedDataSize ∷ ShortWork ∷ ShortImage ∷ ReadCompressedData ∷ InvalidSegmentHeader ∷ SegmentDoNotFitScanline ∷ ShortPlane ∷ NotEnoughBytes ∷ BufferTooSmall ∷ EmptyStream ∷ MissingPad ∷ []) (countFrom 1 14)
     ∷ unpackAnswer (unpacked.Read 5) (counted 5)
     ∷ unpackAnswer (unpacked.Refused ShortPlane) (refused 10)
     ∷ packAnswer (packed.Written 6) (counted 6)

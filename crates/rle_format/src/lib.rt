@@ -20,6 +20,8 @@ pub enum Refusal {
     ShortPlane,
     NotEnoughBytes,
     BufferTooSmall,
+    EmptyStream,
+    MissingPad,
 }
 
 // The answer of unpacking a row or a plane: the number of bytes read, or the refusal.
@@ -51,5 +53,7 @@ pub fn number_of(refusal: Refusal) -> u8
         Refusal::ShortPlane => 10,
         Refusal::NotEnoughBytes => 11,
         Refusal::BufferTooSmall => 12,
+        Refusal::EmptyStream => 13,
+        Refusal::MissingPad => 14,
     }
 }

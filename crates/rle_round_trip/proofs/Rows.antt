@@ -13,11 +13,12 @@ use Rattle.rle_format.specs.Pack.{rowSegments, rowAt, codesAt, packing}
 use Rattle.rle_format.specs.Unpack.{unpackRows}
 use Rattle.rle_format.proofs.Outcome.{prepend-nil, prepend-prepend, answer-cong}
 use Rattle.rle_format.proofs.Row.{rowFrom}
+use Rattle.rle_format.proofs.RowAt.{length-codesAt}
 use Rattle.rle_format.proofs.Plane.{row-full, row-stopped}
 use Rattle.rle_round_trip.specs.Prefix.{coveredValues}
 use Rattle.rle_format.proofs.RowSegments.{rowSegments-encodable, rowSegments-values, rowSegments-count}
 use Rattle.rle_round_trip.proofs.Row.{row-complete, row-truncated}
-use Rattle.rle_round_trip.proofs.Samples.{aboveAt, length-codesAt, restore-codes}
+use Rattle.rle_round_trip.proofs.Samples.{aboveAt, restore-codes}
 use Rattle.rle_round_trip.proofs.Packing.{rowPacking, packing-0, packing-step}
 
 module _ (width : ℕ) (samples : List ℕ) where

@@ -5,11 +5,12 @@ use mathlib.Core.Option.{Option, none, some}
 use Prim.Native.Nat.{ℕ, zero, suc, _+_, _*_, _≤_, _<_}
 use native.Mathlib.Nat.{suc-mul}
 use native.Mathlib.Omega.{arith}
-use lib.ListN.{length, take, drop, getD, length-take, length-drop}
+use lib.ListN.{length, take, drop, getD}
 use lib.Seq.{getD-drop}
 use Rattle.rle_format.specs.Delta.{deltaCode, undoDelta, zipWith, restoreRow}
 use Rattle.rle_format.specs.Pack.{rowAt, codesAt}
-use Rattle.rle_format.proofs.Delta.{undoDelta-deltaCode, length-zipWith}
+use Rattle.rle_format.proofs.Delta.{undoDelta-deltaCode}
+use Rattle.rle_format.proofs.RowAt.{length-rowAt}
 
 -- the row above row r, if there is one
 abbrev pub aboveAt : (width : ℕ) (samples : List ℕ) (r : ℕ) → Option (List ℕ)
@@ -31,18 +32,6 @@ take-bytes (suc n) (x ∷ xs) h zero = h 0
 take-bytes (suc n) (x ∷ xs) h (suc i) = take-bytes n xs (λ j. h (suc j)) i
 
 module _ (width : ℕ) (samples : List ℕ) where
-  pub length-rowAt : (r : ℕ) → suc r * width ≤ length samples → length (rowAt width samples r) ≡ width
-  unfolding rowAt
-  length-rowAt r h = simp (length-take, length-drop) (omega (arith, suc-mul r width))
-
-  pub length-codesAt : (r : ℕ) → suc r * width ≤ length samples → length (codesAt width samples r) ≡ width
-  unfolding codesAt
-  length-codesAt zero h = length-rowAt zero h
-  length-codesAt (suc r) h =
-      let upper = length-rowAt r (omega (arith, suc-mul (suc r) width)) in
-      let lower = length-rowAt (suc r) h in
-      length-zipWith deltaCode (rowAt width samples r) (rowAt width samples (suc r)) (upper ∙ sym lower) ∙ lower
-
   module _ (are-bytes : (i : ℕ) → getD samples i 0 < 256) where
     rowAt-bytes : (r i : ℕ) → getD (rowAt width samples r) i 0 < 256
     unfolding rowAt
@@ -53,5 +42,5 @@ module _ (width : ℕ) (samples : List ℕ) where
     unfolding codesAt
     restore-codes zero h = refl
     restore-codes (suc r) h =
-        let upper = length-rowAt r (omega (arith, suc-mul (suc r) width)) in
-        zipWith-restores (rowAt width samples r) (rowAt width samples (suc r)) (upper ∙ sym (length-rowAt (suc r) h)) (rowAt-bytes r) (rowAt-bytes (suc r))
+        let upper = length-rowAt width samples r (omega (arith, suc-mul (suc r) width)) in
+        zipWith-restores (rowAt width samples r) (rowAt width samples (suc r)) (upper ∙ sym (length-rowAt width samples (suc r) h)) (rowAt-bytes r) (rowAt-bytes (suc r))

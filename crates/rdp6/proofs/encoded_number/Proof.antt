@@ -7,8 +7,8 @@ use native.Mathlib.Omega.{arith}
 use Rattle.rle_format.specs.Answer.{number}
 use Rattle.rle_format.proofs.Answer.{number-max}
 use Rattle.bitmap_format.specs.declared.Encoded.{Encoded}
-use Rattle.bitmap_format.specs.PackPicture.{encodedToAnswer}
-use Rattle.rdp6.specs.Number.{cNumber, dropHeader}
+use Rattle.bitmap_format.specs.PackPicture.{encodedToAnswer, dropHeader}
+use Rattle.rdp6.specs.Number.{cNumber}
 use Rattle.rdp6.proofs.Numbers.{count-fits, refusal-fits}
 use borrow.Author.Needs.{needs}
 use Rattle.rdp6.proofs.encoded_number.Statement.{statement}

@@ -1,10 +1,10 @@
--- `encode_bitmap_alpha`: the answer is the number of bytes with the header record. Assumes nothing.
+-- `encode_channels_body_alpha`: the answer is the number of bytes with the header record. Assumes nothing.
 use mathlib.Core.Bool.{true}
 use Rattle.bitmap_format.specs.PackPicture.{headerToSend}
 use Rattle.bitmap_encoder.proofs.Pictures.{encoded-with-header}
 use borrow.Author.Needs.{needs}
-use Rattle.bitmap_encoder.proofs.encode_bitmap_alpha.Statement.{statement}
-use Rattle.bitmap_encoder.proofs.encode_bitmap_alpha.Tie as tie
+use Rattle.bitmap_encoder.proofs.encode_channels_body_alpha.Statement.{statement}
+use Rattle.bitmap_encoder.proofs.encode_channels_body_alpha.Tie as tie
 
 encode-four-requires : tie.Need-encode-four-requires
 encode-four-requires c κs = search needs
@@ -17,10 +17,10 @@ same-length c = search needs
 
 returns : tie.Need-returns
 returns c =
-    let a = c .before .before .before .before .before .before .before .args in
+    let a = c .before .before .before .before .before .before .before .before .before .before .args in
     let p = c .before .before .before .encode-four in
     (encoded-with-header (headerToSend true (a .rle)) (c .encoded .result) (p .result) _ (c .encoded .ensures) (p .ensures .0), p .ensures .1)
 
-pub encode-bitmap-alpha-spec : {M : Type 1} → statement M
-encode-bitmap-alpha-spec =
+pub encode-channels-body-alpha-spec : {M : Type 1} → statement M
+encode-channels-body-alpha-spec =
     tie.close (tie.spec encode-four-requires encoded-requires same-length returns)

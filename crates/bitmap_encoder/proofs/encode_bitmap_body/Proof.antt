@@ -1,10 +1,10 @@
--- `encode_channels_stream`: the answer is the number of bytes with the header record. Assumes nothing.
+-- `encode_bitmap_body`: the answer is the number of bytes with the header record. Assumes nothing.
 use mathlib.Core.Bool.{false}
 use Rattle.bitmap_format.specs.PackPicture.{headerToSend}
 use Rattle.bitmap_encoder.proofs.Pictures.{encoded-with-header}
 use borrow.Author.Needs.{needs}
-use Rattle.bitmap_encoder.proofs.encode_channels_stream.Statement.{statement}
-use Rattle.bitmap_encoder.proofs.encode_channels_stream.Tie as tie
+use Rattle.bitmap_encoder.proofs.encode_bitmap_body.Statement.{statement}
+use Rattle.bitmap_encoder.proofs.encode_bitmap_body.Tie as tie
 
 encode-three-requires : tie.Need-encode-three-requires
 encode-three-requires c κs = search needs
@@ -17,10 +17,10 @@ same-length c = search needs
 
 returns : tie.Need-returns
 returns c =
-    let a = c .before .before .before .before .before .before .before .before .before .args in
+    let a = c .before .before .before .before .before .before .before .args in
     let p = c .before .before .before .encode-three in
     (encoded-with-header (headerToSend false (a .rle)) (c .encoded .result) (p .result) _ (c .encoded .ensures) (p .ensures .0), p .ensures .1)
 
-pub encode-channels-stream-spec : {M : Type 1} → statement M
-encode-channels-stream-spec =
+pub encode-bitmap-body-spec : {M : Type 1} → statement M
+encode-bitmap-body-spec =
     tie.close (tie.spec encode-three-requires encoded-requires same-length returns)

@@ -1,0 +1,2 @@
+mod Entry
+mod FirstByte
