@@ -15,3 +15,4 @@ pub mod Refusal3
 pub mod PackedBody
 pub mod EmptyDestination
 pub mod StreamClaims
+pub mod StreamCounts

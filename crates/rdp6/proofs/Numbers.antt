@@ -3,6 +3,7 @@ use mathlib.Core.Path.{_≡_, refl, sym, ap, _∙_}
 use mathlib.Core.Bool.{Bool}
 use mathlib.Core.List.{List}
 use Prim.Native.Nat.{ℕ, zero, suc, _≤_, _<_}
+use lib.ListN.{length}
 use native.Mathlib.Omega.{arith}
 use lib.IntN.{ℤ, pos, negℤ, _-ℤ_, +ℤ-idl}
 use mir.Facts.{toZ-pos}
@@ -21,7 +22,9 @@ use Rattle.bitmap_format.specs.declared.BitmapStreamHeader.{BitmapStreamHeader}
 use Rattle.bitmap_format.specs.declared.Encoded.{Encoded}
 use Rattle.bitmap_format.specs.declared.Encoded.the-variants as encoded
 use Rattle.bitmap_format.specs.PackPicture.{packPicture, withHeader, encodedToAnswer, dropHeader}
+use Rattle.bitmap_format.specs.Stream.{packPictureStream}
 use Rattle.bitmap_format.proofs.PackRoom.{packPicture-within}
+use Rattle.bitmap_format.proofs.StreamCounts.{packed-stream-within}
 use Rattle.rdp6.specs.Number.{cNumber}
 
 pub count-fits : (n : ℕ) → n < 9223372036854775808 → SFits w64 (pos n)
@@ -41,8 +44,8 @@ pub unpacked-fits : (a : Unpacked) → ((n : ℕ) → a ≡ unpacked.Read n → 
 unpacked-fits (unpacked.Read n) h = count-fits n (omega (arith, h n refl))
 unpacked-fits (unpacked.Refused r) h = refusal-fits (number r) (number-max r)
 
-pub packed-fits : (a : Packed) → ((n : ℕ) → a ≡ packed.Written n → n ≤ 134217728) → SFits w64 (cNumber (packedToAnswer a))
-packed-fits (packed.Written n) h = count-fits n (omega (arith, h n refl))
+pub packed-fits : (a : Packed) → ((n : ℕ) → a ≡ packed.Written n → n < 9223372036854775808) → SFits w64 (cNumber (packedToAnswer a))
+packed-fits (packed.Written n) h = count-fits n (h n refl)
 packed-fits (packed.Refused r) h = refusal-fits (number r) (number-max r)
 
 pub decoded-fits : (a : Decoded) → ((n : ℕ) → a ≡ decoded.Written n → n ≤ 201326592) → SFits w64 (cNumber (decodedToAnswer a))
@@ -69,3 +72,10 @@ pub encoded-count-max : (rle : Bool) (w h room : ℕ) (planes : List (List ℕ))
     → room < 9223372036854775808 → (n : ℕ) (header : BitmapStreamHeader) → e ≡ encoded.Written n header → n < 9223372036854775808
 encoded-count-max rle w h room planes e t small n header is =
     omega (arith, packPicture-within rle w h room planes n (sym t ∙ ap (λ (x : Encoded). dropHeader (encodedToAnswer x)) is))
+
+-- ---- the answer of packing a stream
+
+pub stream-count-max : (alpha rle : Bool) (w h : ℕ) (planes : List (List ℕ)) (dst : List ℕ) (p : Packed) → packedToAnswer p ≡ packPictureStream alpha rle w h planes dst .answer
+    → length dst < 9223372036854775808 → (n : ℕ) → p ≡ packed.Written n → n < 9223372036854775808
+stream-count-max alpha rle w h planes dst p t small n is =
+    omega (arith, packed-stream-within alpha rle w h planes dst n (sym t ∙ ap packedToAnswer is))

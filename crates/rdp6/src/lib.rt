@@ -1,7 +1,7 @@
-// The C interface of librdp6.a; include/rdp6.h has the prototypes. A slice is passed as a pointer and a length. Each function calls the function
-// of the same name of another crate and returns its answer as one number (FORMAT 8.4).
+// The C interface of librdp6.a; include/rdp6.h has the prototypes. A slice is passed as a pointer and a length. Each function calls one function of
+// another crate and returns its answer as one number (FORMAT 8.4).
 ghost use mathlib.Core.Path.{_≡_};
-ghost use mathlib.Core.Bool.{false};
+ghost use mathlib.Core.Bool.{true, false};
 ghost use Prim.Native.Nat.{ℕ, _≤_, _<_};
 ghost use lib.ListN.{length};
 ghost use Rattle.rle_format.specs.Answer.{refused, number, toAnswer, packedToAnswer};
@@ -13,12 +13,19 @@ ghost use Rattle.bitmap_format.specs.Sizes.{workSize, imageSize};
 ghost use Rattle.bitmap_format.specs.Picture.{unpackPicture, decodedToAnswer};
 ghost use Rattle.pixel_format.specs.Channel.{bgrA};
 ghost use Rattle.bitmap_format.specs.PackPicture.{threePlanes, fourPlanes, pixelPlanes, pixelPlanesAlpha, packPicture, encodedToAnswer, dropHeader};
+ghost use Rattle.bitmap_format.specs.Stream.{unpackStream, streamWorkSize, packPictureStream};
 ghost use Rattle.rdp6.specs.Number.{cNumber};
 ghost use Rattle.rdp6.specs.Header.{cLevel, cDefinition, cHeader};
 use bitmap_format::BitmapStreamHeader;
 use bitmap_format::ColorPlaneDefinition;
 use bitmap_format::Decoded;
 use bitmap_format::Encoded;
+use bitmap_stream::decode_bitmap_stream_to_rgb24;
+use bitmap_stream::encode_bitmap;
+use bitmap_stream::encode_bitmap_alpha;
+use bitmap_stream::encode_channels_stream;
+use bitmap_stream::encode_channels_stream_alpha;
+use bitmap_stream::stream_work_size;
 use rle_format::Packed;
 use rle_format::Refusal;
 use rle_format::Unpacked;
@@ -41,9 +48,9 @@ fn unpacked_number(answer: Unpacked) -> i64
     }
 }
 
-// The answer of packing a plane. No plane is packed in more than two bytes a sample.
+// The answer of packing a plane or a stream. It is at most the length of the destination, and no slice has 2^63 bytes.
 fn packed_number(answer: Packed) -> i64
-    requires { ⌜ ((n : ℕ) → answer ≡ Packed.Written n → n ≤ 134217728) ⌝ }
+    requires { ⌜ ((n : ℕ) → answer ≡ Packed.Written n → n < 9223372036854775808) ⌝ }
     ensures { λ r. ⌜ r ≡ cNumber (packedToAnswer answer) ⌝ }
 {
     match answer {
@@ -63,7 +70,7 @@ fn decoded_number(answer: Decoded) -> i64
     }
 }
 
-// The answer of packing a picture. It is at most the length of the destination, and no slice has 2^63 bytes.
+// The answer of packing a body, bounded in the same way.
 fn encoded_number(answer: Encoded) -> i64
     requires { ⌜ ((n : ℕ) (h : BitmapStreamHeader) → answer ≡ Encoded.Written n h → n < 9223372036854775808) ⌝ }
     ensures { λ r. ⌜ r ≡ cNumber (dropHeader (encodedToAnswer answer)) ⌝ }
@@ -251,4 +258,87 @@ pub extern "C" fn rdp6_encode_bitmap_alpha(
 {
     let answer = bitmap_encoder::encode_bitmap_body_alpha(src, dst, rle, width, height);
     encoded_number(answer)
+}
+
+#[no_mangle]
+pub extern "C" fn rdp6_stream_decode(
+    stream: &[u8],
+    work: &mut [u8],
+    image: &mut [u8],
+    width: usize,
+    height: usize,
+) -> i64
+    ensures answer { λ r. ⌜ r ≡ cNumber (unpackStream width height (now (stream .entry)) (now (work .entry)) (now (image .entry)) .answer) ⌝ }
+    ensures work { λ _. ⌜ now (work .exit) ≡ unpackStream width height (now (stream .entry)) (now (work .entry)) (now (image .entry)) .work ⌝ }
+    ensures image { λ _. ⌜ now (image .exit) ≡ unpackStream width height (now (stream .entry)) (now (work .entry)) (now (image .entry)) .image ⌝ }
+{
+    decoded_number(decode_bitmap_stream_to_rgb24(stream, work, image, width, height))
+}
+
+#[no_mangle]
+pub extern "C" fn rdp6_stream_work_size(stream: &[u8], width: usize, height: usize) -> usize
+    ensures { λ r. ⌜ r ≡ checkSides (λ (_ : ℕ). 0) width height (streamWorkSize width height (now (stream .entry))) ⌝ }
+{
+    stream_work_size(stream, width, height)
+}
+
+#[no_mangle]
+pub extern "C" fn rdp6_stream_encode_channels(
+    r: &[u8],
+    g: &[u8],
+    b: &[u8],
+    dst: &mut [u8],
+    rle: bool,
+    width: usize,
+    height: usize,
+) -> i64
+    ensures answer { λ n. ⌜ n ≡ cNumber (packPictureStream false rle width height (threePlanes (now (r .entry)) (now (g .entry)) (now (b .entry))) (now (dst .entry)) .answer) ⌝ }
+    ensures slice { λ _. ⌜ now (dst .exit) ≡ packPictureStream false rle width height (threePlanes (now (r .entry)) (now (g .entry)) (now (b .entry))) (now (dst .entry)) .slice ⌝ }
+{
+    packed_number(encode_channels_stream(r, g, b, dst, rle, width, height))
+}
+
+#[no_mangle]
+pub extern "C" fn rdp6_stream_encode_channels_alpha(
+    r: &[u8],
+    g: &[u8],
+    b: &[u8],
+    a: &[u8],
+    dst: &mut [u8],
+    rle: bool,
+    width: usize,
+    height: usize,
+) -> i64
+    ensures answer { λ n. ⌜ n ≡ cNumber (packPictureStream true rle width height (fourPlanes (now (r .entry)) (now (g .entry)) (now (b .entry)) (now (a .entry))) (now (dst .entry)) .answer) ⌝ }
+    ensures slice { λ _. ⌜ now (dst .exit) ≡ packPictureStream true rle width height (fourPlanes (now (r .entry)) (now (g .entry)) (now (b .entry)) (now (a .entry))) (now (dst .entry)) .slice ⌝ }
+{
+    packed_number(encode_channels_stream_alpha(r, g, b, a, dst, rle, width, height))
+}
+
+#[no_mangle]
+pub extern "C" fn rdp6_stream_encode_bitmap(
+    src: &[u8],
+    dst: &mut [u8],
+    rle: bool,
+    width: usize,
+    height: usize,
+) -> i64
+    ensures answer { λ n. ⌜ n ≡ cNumber (packPictureStream false rle width height (pixelPlanes bgrA (now (src .entry))) (now (dst .entry)) .answer) ⌝ }
+    ensures slice { λ _. ⌜ now (dst .exit) ≡ packPictureStream false rle width height (pixelPlanes bgrA (now (src .entry))) (now (dst .entry)) .slice ⌝ }
+{
+    packed_number(encode_bitmap(src, dst, rle, width, height))
+}
+
+#[no_mangle]
+pub extern "C" fn rdp6_stream_encode_bitmap_alpha(
+    src: &[u8],
+    dst: &mut [u8],
+    rle: bool,
+    width: usize,
+    height: usize,
+) -> i64
+    ensures answer { λ n. ⌜ n ≡ cNumber (packPictureStream true rle width height (pixelPlanesAlpha bgrA (now (src .entry))) (now (dst .entry)) .answer) ⌝ }
+    ensures slice { λ _. ⌜ now (dst .exit) ≡ packPictureStream true rle width height (pixelPlanesAlpha bgrA (now (src .entry))) (now (dst .entry)) .slice ⌝ }
+{
+    packed_number(encode_bitmap_alpha(src, dst, rle, width, height))
 }

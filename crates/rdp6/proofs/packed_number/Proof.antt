@@ -17,7 +17,7 @@ enum-known-answer : tie.Need-enum-known-answer
 enum-known-answer c = search needs
 
 cast-result : tie.Need-cast-result
-cast-result c = count-fits _ (omega (arith, c .before .before .before .pre _ (c .before .answer .given .1)))
+cast-result c = count-fits _ (c .before .before .before .pre _ (c .before .answer .given .1))
 
 enum-known-answer-2 : tie.Need-enum-known-answer-2
 enum-known-answer-2 c = search needs

@@ -1,6 +1,6 @@
 -- `rdp6_compress_8bpp_plane`: what the entry ensures, its answer as a number. Assumes nothing.
 use mathlib.Core.Path.{_≡_, sym, ap, _∙_}
-use Prim.Native.Nat.{ℕ, _≤_}
+use Prim.Native.Nat.{ℕ, _<_}
 use native.Mathlib.Omega.{arith}
 use lib.ListN.{length}
 use mir.Facts.{toZ-ofZ}
@@ -18,7 +18,7 @@ use Rattle.rdp6.proofs.rdp6_compress_8bpp_plane.Statement.{statement}
 use Rattle.rdp6.proofs.rdp6_compress_8bpp_plane.Tie as tie
 
 -- a plane that was packed has few bytes
-few : (c : tie.After-compress-8bpp-plane) (n : ℕ) → c .compress-8bpp-plane .result ≡ Written n → n ≤ 134217728
+few : (c : tie.After-compress-8bpp-plane) (n : ℕ) → c .compress-8bpp-plane .result ≡ Written n → n < 9223372036854775808
 few c n e =
     let a = c .before .before .before .before .args in
     let w = packed-complete (a .width) (a .height) (length (a .dst .now)) (a .src .now) n (sym (c .compress-8bpp-plane .ensures .0) ∙ ap packedToAnswer e) in
