@@ -35,14 +35,14 @@ pub(crate) fn header_from_byte(byte: u8) -> BitmapStreamHeader
 }
 
 // Bits 0 to 3 of a header byte, from the low bits of a loss level. Level 0 is read as ARGB, for which bit 3 is written 0.
-fn level_bits(level: u8, subsampling: bool) -> u8
-    requires { ⌜ level ≤ 7 ⌝ }
-    ensures { λ r. ⌜ (r ≡ choose (eqb level 0) 0 (level + choose subsampling 8 0)) × (r ≤ 15) ⌝ }
+fn level_bits(low: u8, subsampling: bool) -> u8
+    requires { ⌜ low ≤ 7 ⌝ }
+    ensures { λ r. ⌜ (r ≡ choose (eqb low 0) 0 (low + choose subsampling 8 0)) × (r ≤ 15) ⌝ }
 {
-    if level == 0 {
+    if low == 0 {
         return 0;
     }
-    level + flag(subsampling, 8)
+    low + flag(subsampling, 8)
 }
 
 // Bits 0 to 3 of a header byte. Of a loss level over 7 only the low bits are written.

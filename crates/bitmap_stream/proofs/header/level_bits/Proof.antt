@@ -19,7 +19,7 @@ add-result c = omega (arith, c .flag .ensures .1)
 returns-2 : tie.Need-returns-2
 returns-2 c =
     let a = c .before .before .args in
-    (ap (λ (k : ℕ). a .level + k) (c .flag .ensures .0) ∙ sym (rw (ne-eqb (a .level) 0 (c .before .if1 .left))), omega (arith, c .flag .ensures .1))
+    (ap (λ (k : ℕ). a .low + k) (c .flag .ensures .0) ∙ sym (rw (ne-eqb (a .low) 0 (c .before .if1 .left))), omega (arith, c .flag .ensures .1))
 
 pub level-bits-spec : {M : Type 1} → statement M
 level-bits-spec = tie.close (tie.spec returns flag-requires add-result returns-2)
