@@ -13,7 +13,7 @@ use Rattle.bitmap_format.specs.declared.ColorPlaneDefinition.{ColorPlane
 use Rattle.bitmap_format.specs.declared.ColorPlaneDefinition.the-variants.{Argb, AYCoCg}
 use Rattle.bitmap_format.specs.Picture.{isLossLevelInvalid}
 use Rattle.bitmap_format.proofs.Picture.{loss-level-range}
-use Rattle.bitmap_format.specs.HeaderByte.{definitionFromByte, headerFromByte, definitionBits, headerToByte}
+use Rattle.bitmap_format.specs.HeaderByte.{isSet, definitionFromByte, headerFromByte, definitionBits, headerToByte}
 
 -- ---- a header record that was read
 
@@ -24,6 +24,25 @@ read-level-valid byte =
     (λ (z : byte % 8 ≡ 0). rw (eq-eqb (byte % 8) 0 z))
     (λ (z : byte % 8 ≡ 0 → ⊥). let few : byte % 8 ≤ 7 = omega arith in rw (ne-eqb (byte % 8) 0 z, ne-eqb (byte % 8) 0 z, le-ltb 7 (byte % 8) few))
     (eq-or-ne (byte % 8) 0)
+
+pub definition-argb : (byte : ℕ) → byte % 8 ≡ 0 → Argb ≡ definitionFromByte byte
+unfolding definitionFromByte
+definition-argb byte z = rw (eq-eqb (byte % 8) 0 z)
+
+pub definition-aycocg : (byte : ℕ) → (byte % 8 ≡ 0 → ⊥) → AYCoCg (byte % 8) (isSet 8 byte) ≡ definitionFromByte byte
+unfolding definitionFromByte
+definition-aycocg byte z = rw (ne-eqb (byte % 8) 0 z)
+
+abbrev pub header : (rle alpha : Bool) → ColorPlaneDefinition → BitmapStreamHeader
+header rle alpha d = record {
+  «enable_rle_compression» = rle;
+  «use_alpha» = alpha;
+  «color_plane_definition» = d;
+}
+
+pub header-from-fields : (byte : ℕ) (d : ColorPlaneDefinition) → d ≡ definitionFromByte byte → header (isSet 16 byte) (not (isSet 32 byte)) d ≡ headerFromByte byte
+unfolding headerFromByte
+header-from-fields byte d e = ap (header (isSet 16 byte) (not (isSet 32 byte))) e
 
 -- ---- a byte as x + 8 × k: x is bits 0 to 2, and k the number that the higher bits make
 
@@ -74,12 +93,15 @@ bits false true false = record { sum = λ x. omega arith; s-is = refl; rle-is = 
 bits false false true = record { sum = λ x. omega arith; s-is = refl; rle-is = refl; alpha-is = refl }
 bits false false false = record { sum = λ x. omega arith; s-is = refl; rle-is = refl; alpha-is = refl }
 
-abbrev pub header : (rle alpha : Bool) → ColorPlaneDefinition → BitmapStreamHeader
-header rle alpha d = record {
-  «enable_rle_compression» = rle;
-  «use_alpha» = alpha;
-  «color_plane_definition» = d;
-}
+no-alpha-bit : (alpha : Bool) → _≡_ {A = ℕ} (choose (not alpha) 32 0) (choose alpha 0 32)
+no-alpha-bit true = refl
+no-alpha-bit false = refl
+
+-- its byte is the sum of three parts
+pub header-byte-sum : (h : BitmapStreamHeader) (definition rle no-alpha : ℕ) → definition ≡ definitionBits (h .«color_plane_definition»)
+    → rle ≡ choose (h .«enable_rle_compression») 16 0 → no-alpha ≡ choose (not (h .«use_alpha»)) 32 0 → definition + rle + no-alpha ≡ headerToByte h
+unfolding headerToByte
+header-byte-sum h definition rle no-alpha ed er ea = λ i. ed i + er i + (ea ∙ no-alpha-bit (h .«use_alpha»)) i
 
 level-bits-none : (level : ℕ) (s : Bool) → level % 8 ≡ 0 → definitionBits (AYCoCg level s) ≡ 0
 unfolding definitionBits

@@ -83,8 +83,8 @@ headerBytes =
 -- ---- streams
 
 -- One pixel of R 1, G 2, B 3: raw without alpha, with a longer work area and image; with alpha 4; RLE without alpha, its last byte no pad byte;
--- with alpha; `F8` is `30` with bit 3 and the two top bits set. Then the pixel of FORMAT 10, 15, with alpha and without; and two wide, two high,
--- subsampled: Y 100 to 103, Co 1, Cg 10, so t is 90 to 93
+-- with alpha; `F8` is `30` with bit 3 and the two top bits set. Two pixels side by side. Then the pixel of FORMAT 10, 15, with alpha and without; and
+-- two wide, two high, subsampled: Y 100 to 103, Co 1, Cg 10, so t is 90 to 93
 abbrev pub unpacked : List Example
 unpacked =
     unpacks 1 1 (0x20 ∷ 1 ∷ 2 ∷ 3 ∷ 0 ∷ []) (unwritten 2) (1 ∷ 2 ∷ 3 ∷ unwritten 1) (counted 3)
@@ -92,6 +92,7 @@ unpacked =
     ∷ unpacks 1 1 (0x30 ∷ 0x10 ∷ 1 ∷ 0x10 ∷ 2 ∷ 0x10 ∷ 3 ∷ []) (1 ∷ 2 ∷ 3 ∷ []) (1 ∷ 2 ∷ 3 ∷ []) (counted 3)
     ∷ unpacks 1 1 (0x10 ∷ 0x10 ∷ 4 ∷ 0x10 ∷ 1 ∷ 0x10 ∷ 2 ∷ 0x10 ∷ 3 ∷ []) (1 ∷ 2 ∷ 3 ∷ []) (1 ∷ 2 ∷ 3 ∷ []) (counted 3)
     ∷ unpacks 1 1 (0xF8 ∷ 0x10 ∷ 1 ∷ 0x10 ∷ 2 ∷ 0x10 ∷ 3 ∷ []) (1 ∷ 2 ∷ 3 ∷ []) (1 ∷ 2 ∷ 3 ∷ []) (counted 3)
+    ∷ unpacks 2 1 (0x30 ∷ 0x20 ∷ 1 ∷ 2 ∷ 0x20 ∷ 3 ∷ 4 ∷ 0x20 ∷ 5 ∷ 6 ∷ []) (countFrom 1 6) (1 ∷ 3 ∷ 5 ∷ 2 ∷ 4 ∷ 6 ∷ []) (counted 6)
     ∷ unpacks 1 1 (0x01 ∷ 0xFF ∷ 100 ∷ 10 ∷ 20 ∷ 0 ∷ []) [] (90 ∷ 120 ∷ 70 ∷ []) (counted 3)
     ∷ unpacks 1 1 (0x31 ∷ 0x10 ∷ 100 ∷ 0x10 ∷ 10 ∷ 0x10 ∷ 20 ∷ []) (100 ∷ 10 ∷ 20 ∷ []) (70 ∷ 120 ∷ 90 ∷ []) (counted 3)
     ∷ unpacks 2 2 (0x29 ∷ 100 ∷ 101 ∷ 102 ∷ 103 ∷ 1 ∷ 10 ∷ 0 ∷ []) []

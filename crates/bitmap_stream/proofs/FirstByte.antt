@@ -1,12 +1,11 @@
 -- The header byte written in front of a body, which was packed into what follows the first byte of the destination; and an empty destination.
 use mathlib.Core.Path.{_≡_, refl, sym, ap, _∙_}
-use mathlib.Core.Bool.{Bool, true, false, not}
+use mathlib.Core.Bool.{Bool}
 use mathlib.Core.List.{List, [], _∷_}
 use Prim.Native.Nat.{ℕ, _+_, _-_, _≤_, _<_}
 use native.Mathlib.Nat.{add-comm}
 use native.Mathlib.Omega.{arith}
 use lib.ListN.{length, length-drop}
-use Rattle.rle_format.specs.Choice.{choose}
 use Rattle.rle_format.specs.Answer.{Answer, counted, refused, Outcome}
 use Rattle.rle_format.specs.Slice.{overwrite}
 use Rattle.rle_format.proofs.Slice.{suffix, replaceSuffix, suffix-drop, replaceSuffix-append, length-replaceSuffix}
@@ -19,11 +18,6 @@ use Rattle.bitmap_format.specs.Stream.{StreamOutcome, withHeaderByte, emptyDest
 use Rattle.bitmap_format.proofs.PackRoom.{packPicture-within}
 use Rattle.bitmap_format.proofs.EmptyDestination.{no-room}
 use Rattle.bitmap_stream.specs.HeaderWritten.{headerWritten}
-
--- the bit for no alpha
-pub no-alpha-bit : (alpha : Bool) → _≡_ {A = ℕ} (choose (not alpha) 32 0) (choose alpha 0 32)
-no-alpha-bit true = refl
-no-alpha-bit false = refl
 
 -- ---- any packer that returns `header`
 

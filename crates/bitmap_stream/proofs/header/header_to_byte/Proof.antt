@@ -1,9 +1,6 @@
 -- `header_to_byte`: the sum of the bits, which fits a byte. Assumes nothing.
-use mathlib.Core.Path.{_∙_}
 use native.Mathlib.Omega.{arith}
-use Rattle.bitmap_format.specs.HeaderByte.{headerToByte}
-use Rattle.bitmap_stream.proofs.FirstByte.{no-alpha-bit}
-use Prim.Native.Nat.{_+_}
+use Rattle.bitmap_format.proofs.HeaderByte.{header-byte-sum}
 use borrow.Author.Needs.{needs}
 use Rattle.bitmap_stream.proofs.header.header_to_byte.Statement.{statement}
 use Rattle.bitmap_stream.proofs.header.header_to_byte.Tie as tie
@@ -24,8 +21,9 @@ add-result-2 : tie.Need-add-result-2
 add-result-2 c = omega (arith, c .flag2 .ensures .1, c .before .flag .ensures .1, c .before .before .definition-bits .ensures .1)
 
 returns : tie.Need-returns
-unfolding headerToByte
-returns c = λ i. c .before .before .definition-bits .ensures .0 i + c .before .flag .ensures .0 i + (c .flag2 .ensures .0 ∙ no-alpha-bit (c .before .before .before .before .args .header .«use_alpha»)) i
+returns c =
+    let a = c .before .before .before .before .args in
+    header-byte-sum (a .header) (c .before .before .definition-bits .result) (c .before .flag .result) (c .flag2 .result) (c .before .before .definition-bits .ensures .0) (c .before .flag .ensures .0) (c .flag2 .ensures .0)
 
 pub header-to-byte-spec : {M : Type 1} → statement M
 header-to-byte-spec =
