@@ -144,7 +144,7 @@ fn random_stream(byte: u8, (width, height): (usize, usize), noise: &mut Noise) -
     let (subsampled, alpha) = (byte & 0x07 != 0 && byte & 0x08 != 0, byte & 0x20 == 0);
     let chroma = if subsampled { ((width + 1) / 2, (height + 1) / 2) } else { (width, height) };
     let mut planes = vec![(width, height), chroma, chroma];
-    planes.splice(0..0, alpha.then(|| (width, height)));
+    planes.splice(0..0, alpha.then_some((width, height)));
     let mut stream = vec![byte];
     for (width, height) in planes {
         let samples = noise.samples(width * height);
@@ -156,7 +156,7 @@ fn random_stream(byte: u8, (width, height): (usize, usize), noise: &mut Noise) -
             stream.extend(&packed[..count]);
         }
     }
-    stream.extend((byte & 0x10 == 0).then(|| 0xDD));
+    stream.extend((byte & 0x10 == 0).then_some(0xDD));
     stream
 }
 
