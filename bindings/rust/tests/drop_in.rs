@@ -1,5 +1,6 @@
-//! A program that was written for IronRDP compiles with this crate and does the same: tests/drop_in/program.rs, of which only the `use` lines
-//! differ. tests/drop_in/expected.txt is what it prints over IronRDP; the comparison with IronRDP (differential/) runs it there.
+//! A program for IronRDP's names, tests/drop_in/program.rs, compiles with this crate and prints what it prints with IronRDP: only the `use`
+//! lines differ. tests/drop_in/expected.txt was printed with IronRDP's decoder and encoder, over a stand-in for its code of the header byte. The
+//! comparison with IronRDP (differential/) runs it there too.
 
 mod program {
     use rdp6::bitmap_stream::decoder::BitmapStreamDecoder;

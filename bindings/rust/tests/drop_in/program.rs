@@ -1,9 +1,9 @@
-// A program that packs and unpacks pictures with the codec's names alone, BitmapStreamDecoder, BitmapStreamEncoder and BgrAChannels. The file
-// that includes it has the one `use` line that says whose they are: this crate's (tests/drop_in.rs) or IronRDP's (differential/). It prints
-// the same over both.
+// A program that packs and unpacks pictures. Of the codec it uses the names BitmapStreamDecoder, BitmapStreamEncoder and BgrAChannels. The file
+// that includes it has the `use` lines that say whose they are: this crate's (tests/drop_in.rs) or IronRDP's (differential/). With both it
+// compiles and prints the same.
 //
-// Channels are passed as `into_iter()` of vectors, which is an iterator and a slice. No variant of an error is named, and no text of one is
-// printed. After an error of the encoder the destination is not printed: IronRDP has written the header byte by then, this crate has not.
+// Channels are given as `into_iter()` of vectors, which both take. Errors are not told apart: IronRDP has other variants and texts. After an
+// error of the encoder the destination is not printed: IronRDP has written the header byte by then, this crate has not.
 
 /// The pictures: a name, the width, the height, and the pixels, B, G, R, A each.
 type Picture = (&'static str, usize, usize, Vec<u8>);
