@@ -93,7 +93,7 @@ int main(int argc, char **argv)
     size_t length = counted(rdp6_stream_encode_bitmap(pixels, sizeof pixels, stream, sizeof stream, true, WIDTH, HEIGHT));
     unpack("R, G, B in RLE", length);
     length = counted(rdp6_stream_encode_bitmap_alpha(pixels, sizeof pixels, stream, sizeof stream, false, WIDTH, HEIGHT));
-    stream[0] &= (uint8_t)~0x20; /* there is an alpha plane: the packer writes 0x20 for four planes too */
+    stream[0] &= 0xDF; /* clears bit 5, which the packer sets for four planes too: there is an alpha plane */
     unpack("A, R, G, B raw", length);
     const char *path = argc > 1 ? argv[1] : "target/examples/round_trip.ppm";
     write_ppm(path, (struct picture){WIDTH, HEIGHT, image});

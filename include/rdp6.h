@@ -31,7 +31,7 @@
  *
  * Four planes. A stream packer writes 0x30 (RLE) or 0x20 (raw) before four planes too, as IronRDP does. These say that there is no alpha
  * plane, so a receiver takes A for R, R for G and G for B. To tell receivers of the alpha plane, clear bit 5 of the stream's first byte:
- * dst[0] &= ~0x20. A body of four planes is sent with the header byte 0x10 (RLE) or 0x00 (raw); whoever unpacks it passes alpha as true.
+ * dst[0] &= 0xDF. A body of four planes is sent with the header byte 0x10 (RLE) or 0x00 (raw); whoever unpacks it passes alpha as true.
  *
  * Row order. The first row in a stream or a body is the first row of the image. RDP bitmap updates carry their rows bottom up: flip the rows
  * after unpacking one, and before packing one. Other codecs, such as FreeRDP's, flip them by themselves (FORMAT 1.5).
@@ -132,13 +132,13 @@ static inline const char *rdp6_refusal_text(int64_t number)
  *   image_len   3 * width * height, which rdp6_image_size computes
  *
  * Refusals, checked in this order. None of them changes image:
- *   13  stream_len is 0                                    }
- *   14  stream_len is 1 and the stream is raw              }
- *    1  width or height is 0                               }
- *    2  width or height is over 8192                       }  work is unchanged too
- *    4  the body is shorter than its minimum size          }
- *    5  work_len is below its minimum (RLE only)           }
- *    6  image_len is below its minimum                     }
+ *   13  stream_len is 0                                      }
+ *   14  the stream is raw and stream_len is 1: no pad byte   }
+ *    1  width or height is 0                                 }
+ *    2  width or height is over 8192                         }  work is unchanged too
+ *    4  the body is shorter than its minimum size            }
+ *    5  work_len is below its minimum (RLE only)             }
+ *    6  image_len is below its minimum                       }
  *    7  a control byte or a raw byte is missing   }  RLE only. In work the colour planes before are complete, the refused plane is as
  *    8  a control byte is 0                       }  rdp6_decompress_8bpp_plane leaves it. If it is the first colour plane, the part
  *    9  a segment overruns its row                }  that it did not write still has alpha, if there is any
