@@ -1,6 +1,7 @@
 /*
  * Checks of the refusals in C: rdp6_refusal_text has a text for each and for no other number; rdp6_decode refuses each definition and each
- * loss level that FORMAT 8 does not allow, also one whose last byte is an allowed number. `make header` runs this program.
+ * loss level that FORMAT 8 does not allow, also one whose last byte is an allowed number; rdp6_stream_decode has no header byte that it
+ * refuses with 3. `make header` runs this program.
  */
 #include <inttypes.h>
 #include <stdio.h>
@@ -21,6 +22,8 @@ static const enum rdp6_refusal refusals[] = {
     RDP6_SHORT_PLANE,
     RDP6_NOT_ENOUGH_BYTES,
     RDP6_BUFFER_TOO_SMALL,
+    RDP6_EMPTY_STREAM,
+    RDP6_MISSING_PAD,
 };
 
 enum { REFUSALS = sizeof refusals / sizeof refusals[0] };
@@ -42,7 +45,7 @@ static bool has_text(int64_t number)
 
 static void check_texts(void)
 {
-    static const int64_t others[] = {0, -1, -3, -12, 13, 256 + 3, INT64_C(1) << 32, (INT64_C(1) << 32) + 3, INT64_MAX, INT64_MIN};
+    static const int64_t others[] = {0, -1, -3, -14, 15, 256 + 3, INT64_C(1) << 32, (INT64_C(1) << 32) + 3, INT64_MAX, INT64_MIN};
     for (size_t i = 0; i < REFUSALS; i++) {
         expect(refusals[i] == (int64_t)i + 1, "the refusals are numbered from 1 on", refusals[i]);
         expect(has_text(refusals[i]), "a refusal has a text", refusals[i]);
@@ -81,11 +84,28 @@ static void check_wide_numbers(void)
     }
 }
 
+/* Every header byte, with no body and with one that is long enough for each. */
+static void check_header_bytes(void)
+{
+    for (int byte = 0; byte < 256; byte++) {
+        uint8_t stream[] = {(uint8_t)byte, 0x10, 1, 0x10, 2, 0x10, 3, 0x10, 4}, work[3], image[3];
+        int64_t short_answer = (byte & 0x10) != 0 ? -RDP6_INVALID_UNCOMPRESSED_DATA_SIZE : -RDP6_MISSING_PAD;
+        int64_t answer = rdp6_stream_decode(stream, 1, work, sizeof work, image, sizeof image, 1, 1);
+        expect(answer == short_answer, "a stream of one byte is refused", byte);
+        answer = rdp6_stream_decode(stream, sizeof stream, work, sizeof work, image, sizeof image, 1, 1);
+        expect(answer == 3, "every header byte is accepted", byte);
+    }
+    expect(rdp6_stream_decode(NULL, 0, NULL, 0, NULL, 0, 0, 0) == -RDP6_EMPTY_STREAM, "an empty stream is refused first", 0);
+}
+
 int main(void)
 {
     check_texts();
     check_wide_numbers();
+    check_header_bytes();
     if (failed == 0)
-        printf("C: %d refusals with a text each; other definitions and loss levels are refused, whatever their last byte is\n", REFUSALS);
+        printf("C: %d refusals with a text each; other definitions and loss levels are refused, whatever their last byte is; every header byte "
+               "is accepted\n",
+               REFUSALS);
     return failed == 0 ? 0 : 1;
 }

@@ -33,6 +33,45 @@ bool is_written(int64_t answer, const Bytes &buffer, const Bytes &expected)
     return answer == static_cast<int64_t>(expected.size()) && buffer == filled;
 }
 
+// One pixel, B 1, G 2, R 3, A 4.
+void packing_streams()
+{
+    const uint8_t pixel[] = {1, 2, 3, 4}, *b = pixel, *g = pixel + 1, *r = pixel + 2, *a = pixel + 3;
+    const uint8_t raw[] = {0x20, 3, 2, 1, 0}, raw_alpha[] = {0x20, 4, 3, 2, 1, 0};
+    const uint8_t rle[] = {0x30, 0x10, 3, 0x10, 2, 0x10, 1}, rle_alpha[] = {0x30, 0x10, 4, 0x10, 3, 0x10, 2, 0x10, 1};
+    Bytes stream(10, 0xEE);
+    int64_t answer = rdp6_stream_encode_bitmap(pixel, 4, &stream[0], stream.size(), true, 1, 1);
+    expect("rdp6_stream_encode_bitmap", is_written(answer, stream, bytes(rle, 7)));
+    stream.assign(10, 0xEE);
+    answer = rdp6_stream_encode_bitmap_alpha(pixel, 4, &stream[0], stream.size(), false, 1, 1);
+    expect("rdp6_stream_encode_bitmap_alpha", is_written(answer, stream, bytes(raw_alpha, 6)));
+    stream.assign(10, 0xEE);
+    answer = rdp6_stream_encode_channels(r, 1, g, 1, b, 1, &stream[0], stream.size(), false, 1, 1);
+    expect("rdp6_stream_encode_channels", is_written(answer, stream, bytes(raw, 5)));
+    stream.assign(10, 0xEE);
+    answer = rdp6_stream_encode_channels_alpha(r, 1, g, 1, b, 1, a, 1, &stream[0], stream.size(), true, 1, 1);
+    expect("rdp6_stream_encode_channels_alpha", is_written(answer, stream, bytes(rle_alpha, 9)));
+    answer = rdp6_stream_encode_bitmap(pixel, 4, NULL, 0, true, 1, 1);
+    expect("rdp6_stream_encode_bitmap", answer == -RDP6_BUFFER_TOO_SMALL);
+}
+
+// Loss level 1, with alpha raw and without alpha in RLE: Y 100, Co 10, Cg 20, as in example 15 of docs/FORMAT.md.
+void unpacking_streams()
+{
+    const uint8_t raw[] = {0x01, 255, 100, 10, 20, 0}, rle[] = {0x31, 0x10, 100, 0x10, 10, 0x10, 20};
+    const uint8_t with_alpha[] = {90, 120, 70}, without[] = {70, 120, 90};
+    Bytes image(4, 0xEE), work(rdp6_stream_work_size(rle, 7, 1, 1), 0xEE);
+    int64_t answer = rdp6_stream_decode(raw, 6, NULL, 0, &image[0], image.size(), 1, 1);
+    expect("rdp6_stream_decode", is_written(answer, image, bytes(with_alpha, 3)));
+    image.assign(4, 0xEE);
+    answer = rdp6_stream_decode(rle, 7, &work[0], work.size(), &image[0], image.size(), 1, 1);
+    expect("rdp6_stream_decode", is_written(answer, image, bytes(without, 3)));
+    expect("rdp6_stream_decode", rdp6_stream_decode(NULL, 0, NULL, 0, NULL, 0, 1, 1) == -RDP6_EMPTY_STREAM);
+    expect("rdp6_stream_decode", rdp6_stream_decode(raw, 1, NULL, 0, NULL, 0, 1, 1) == -RDP6_MISSING_PAD);
+    expect("rdp6_stream_work_size", work.size() == 3);
+    expect("rdp6_stream_work_size", rdp6_stream_work_size(raw, 6, 1, 1) == 0 && rdp6_stream_work_size(NULL, 0, 1, 1) == 0);
+}
+
 void planes()
 {
     const uint8_t samples[] = {7, 7, 7, 7}, packing[] = {0x13, 7};
@@ -46,7 +85,7 @@ void planes()
 }
 
 // One pixel, B 1, G 2, R 3, A 4.
-void packing()
+void packing_bodies()
 {
     const uint8_t pixel[] = {1, 2, 3, 4}, *b = pixel, *g = pixel + 1, *r = pixel + 2, *a = pixel + 3;
     const uint8_t raw[] = {3, 2, 1, 0}, raw_alpha[] = {4, 3, 2, 1, 0};
@@ -58,15 +97,15 @@ void packing()
     answer = rdp6_encode_bitmap_alpha(pixel, 4, &body[0], body.size(), true, 1, 1);
     expect("rdp6_encode_bitmap_alpha", is_written(answer, body, bytes(rle_alpha, 8)));
     body.assign(9, 0xEE);
-    answer = rdp6_encode_channels_stream(r, 1, g, 1, b, 1, &body[0], body.size(), true, 1, 1);
-    expect("rdp6_encode_channels_stream", is_written(answer, body, bytes(rle, 6)));
+    answer = rdp6_encode_channels(r, 1, g, 1, b, 1, &body[0], body.size(), true, 1, 1);
+    expect("rdp6_encode_channels", is_written(answer, body, bytes(rle, 6)));
     body.assign(9, 0xEE);
-    answer = rdp6_encode_channels_stream_alpha(r, 1, g, 1, b, 1, a, 1, &body[0], body.size(), false, 1, 1);
-    expect("rdp6_encode_channels_stream_alpha", is_written(answer, body, bytes(raw_alpha, 5)));
+    answer = rdp6_encode_channels_alpha(r, 1, g, 1, b, 1, a, 1, &body[0], body.size(), false, 1, 1);
+    expect("rdp6_encode_channels_alpha", is_written(answer, body, bytes(raw_alpha, 5)));
 }
 
 // Example 15 of docs/FORMAT.md, with alpha and without: Y 100, Co 10, Cg 20.
-void unpacking()
+void unpacking_bodies()
 {
     const uint8_t body[] = {255, 100, 10, 20}, with_alpha[] = {90, 120, 70}, without[] = {70, 120, 90};
     Bytes image(4, 0xEE);
@@ -86,10 +125,12 @@ void unpacking()
 
 int main()
 {
+    packing_streams();
+    unpacking_streams();
+    packing_bodies();
+    unpacking_bodies();
     planes();
-    packing();
-    unpacking();
     if (all_right)
-        std::printf("C++: each of the 9 functions returns and writes what is expected\n");
+        std::printf("C++: each of the 15 functions returns and writes what is expected\n");
     return all_right ? 0 : 1;
 }

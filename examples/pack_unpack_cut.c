@@ -16,7 +16,7 @@ static size_t width, height, area;
 static struct picture picture; /* as read */
 static struct picture image;   /* as unpacked */
 static uint8_t *pixels;        /* B, G, R, A */
-static uint8_t *body;          /* packed: at most two bytes a sample */
+static uint8_t *packed;        /* a stream, or a plane: at most two bytes a sample, and the header byte */
 static uint8_t *work;          /* three planes */
 
 static void make_buffers(void)
@@ -26,7 +26,7 @@ static void make_buffers(void)
     area = width * height;
     image = (struct picture){width, height, allocate(3 * area)};
     pixels = allocate(4 * area);
-    body = allocate(6 * area);
+    packed = allocate(6 * area + 1);
     work = allocate(3 * area);
 }
 
@@ -39,7 +39,7 @@ static void write_image(const char *what, const char *folder, const char *name)
     printf("%s: %s\n", what, path);
 }
 
-/* Packs the picture from its pixels, R, G and B as RLE planes, and returns the number of bytes. */
+/* Packs the picture from its pixels into a stream, R, G and B as RLE planes, and returns the number of bytes. */
 static size_t pack_picture(void)
 {
     for (size_t i = 0; i < area; i++) {
@@ -47,16 +47,17 @@ static size_t pack_picture(void)
             pixels[4 * i + channel] = picture.rgb[3 * i + 2 - channel];
         pixels[4 * i + 3] = 255;
     }
-    int64_t answer = rdp6_encode_bitmap(pixels, 4 * area, body, 6 * area, true, width, height);
+    int64_t answer = rdp6_stream_encode_bitmap(pixels, 4 * area, packed, 6 * area + 1, true, width, height);
     if (answer < 0)
         fail("DIFFERENT: packing the picture gave refusal %" PRId64 ": %s", -answer, rdp6_refusal_text(-answer));
-    printf("Packed as RLE: %" PRId64 " bytes, %.1f %% of that\n", answer, 100.0 * (double)answer / (3.0 * (double)area));
+    printf("Packed as an RLE stream: %" PRId64 " bytes, %.1f %% of that\n", answer, 100.0 * (double)answer / (3.0 * (double)area));
     return (size_t)answer;
 }
 
 static int64_t unpack_picture(size_t length)
 {
-    return rdp6_decode(true, false, RDP6_ARGB, 0, false, body, length, work, 3 * area, image.rgb, 3 * area, width, height);
+    size_t work_len = rdp6_stream_work_size(packed, length, width, height);
+    return rdp6_stream_decode(packed, length, work, work_len, image.rgb, 3 * area, width, height);
 }
 
 static void unpack_complete(size_t length)
@@ -69,7 +70,7 @@ static void unpack_complete(size_t length)
 /* A truncated picture is refused, and the image is unchanged. It is tried with two fillings of the image: each written byte differs from one. */
 static void unpack_half(size_t length)
 {
-    size_t half = length / 2, minimum = 3 * height * ((width + 46) / 47);
+    size_t half = length / 2, minimum = 1 + 3 * height * ((width + 46) / 47);
     int64_t refusal = half < minimum ? RDP6_INVALID_UNCOMPRESSED_DATA_SIZE : RDP6_READ_COMPRESSED_DATA;
     for (int fill = 0; fill <= 255; fill += 255) {
         memset(image.rgb, fill, 3 * area);
@@ -89,7 +90,7 @@ static size_t pack_rows(const uint8_t *samples, size_t rows)
 {
     if (rows == 0)
         return 0;
-    int64_t answer = rdp6_compress_8bpp_plane(samples, rows * width, body, 2 * area, width, rows);
+    int64_t answer = rdp6_compress_8bpp_plane(samples, rows * width, packed, 2 * area, width, rows);
     if (answer < 0)
         fail("DIFFERENT: packing %zu rows of a plane gave refusal %" PRId64 ": %s", rows, -answer, rdp6_refusal_text(-answer));
     return (size_t)answer;
@@ -136,7 +137,7 @@ static uint8_t coded_value(const uint8_t *samples, size_t i)
 static void unpack_truncated(const uint8_t *samples, size_t length, uint8_t *plane, uint8_t fill, size_t rows, size_t values)
 {
     memset(plane, fill, area);
-    int64_t answer = rdp6_decompress_8bpp_plane(body, length, plane, area, width, height);
+    int64_t answer = rdp6_decompress_8bpp_plane(packed, length, plane, area, width, height);
     if (answer != -RDP6_READ_COMPRESSED_DATA)
         fail("DIFFERENT: the first %zu bytes of a packed plane must give refusal 7; the answer is %" PRId64, length, answer);
     for (size_t i = 0; i < area; i++) {
@@ -154,7 +155,7 @@ static void truncate_plane(size_t channel)
     for (size_t i = 0; i < area; i++)
         samples[i] = picture.rgb[3 * i + channel];
     size_t half = pack_rows(samples, height) / 2, rows = rows_within(samples, half), start = pack_rows(samples, rows);
-    size_t length = pack_rows(samples, height), values = values_within(body + start, half - start);
+    size_t length = pack_rows(samples, height), values = values_within(packed + start, half - start);
     unpack_truncated(samples, half, plane, (uint8_t)~magenta[channel], rows, values); /* two values, as above */
     unpack_truncated(samples, half, plane, magenta[channel], rows, values);
     for (size_t i = 0; i < area; i++)

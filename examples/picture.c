@@ -1,6 +1,7 @@
 /*
- * Unpacks a small picture: 3 x 2 pixels in AYCoCg with alpha, loss level 1, subsampled, RLE. Then the same truncated in the second row of
- * Y, and with an invalid loss level. Both are refused, and the image is unchanged.
+ * Unpacks a small picture from its body, as a program with a parser of its own for the header byte does: 3 x 2 pixels in AYCoCg with alpha,
+ * loss level 1, subsampled, RLE. Then the same truncated in the second row of Y, and with an invalid loss level. Both are refused, and the
+ * image is unchanged. round_trip.c shows whole streams.
  */
 #include <inttypes.h>
 #include <stdio.h>

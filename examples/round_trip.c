@@ -1,6 +1,6 @@
 /*
- * Draws a picture in BGRA, packs it twice, as RLE without alpha and raw with alpha, unpacks both, and checks that R, G and B are the same.
- * Then writes what was unpacked as a PPM file to the path given or to target/examples/round_trip.ppm.
+ * Draws a picture in BGRA, packs it into two streams, RLE without alpha and raw with alpha, unpacks both, and checks that R, G and B are
+ * the same. Then writes what was unpacked as a PPM file to the path given or to target/examples/round_trip.ppm.
  */
 #include <inttypes.h>
 #include <stdio.h>
@@ -17,8 +17,9 @@ struct color {
 };
 
 static uint8_t pixels[4 * AREA]; /* B, G, R, A */
-static uint8_t body[6 * AREA];   /* always enough: three planes of at most two bytes a sample, or four raw ones and a byte */
-static uint8_t work[3 * AREA];
+/* Always enough for the two streams: three planes of at most two bytes a sample, or four raw ones and the pad byte; and the header byte. */
+static uint8_t stream[1 + 6 * AREA];
+static uint8_t work[3 * AREA];  /* always enough */
 static uint8_t image[3 * AREA]; /* R, G, B */
 
 static bool within(size_t value, size_t first, size_t last)
@@ -68,11 +69,13 @@ static size_t counted(int64_t answer)
     return (size_t)answer;
 }
 
-/* Unpacks the first bytes of body. alpha is whether A was packed. */
-static void unpack(bool rle, bool alpha, size_t length)
+/* Unpacks the stream, of so many bytes. Its header byte says in which form it is. */
+static void unpack(const char *what, size_t length)
 {
+    size_t work_len = rdp6_stream_work_size(stream, length, WIDTH, HEIGHT);
+    printf("%s: %zu bytes, work area %zu bytes\n", what, length, work_len);
     memset(image, 0, sizeof image);
-    counted(rdp6_decode(rle, alpha, RDP6_ARGB, 0, false, body, length, work, sizeof work, image, sizeof image, WIDTH, HEIGHT));
+    counted(rdp6_stream_decode(stream, length, work, work_len, image, sizeof image, WIDTH, HEIGHT));
     for (size_t i = 0; i < AREA; i++) {
         const uint8_t *in = pixels + 4 * i, *out = image + 3 * i;
         if (out[0] != in[2] || out[1] != in[1] || out[2] != in[0]) {
@@ -87,12 +90,11 @@ int main(int argc, char **argv)
 {
     draw();
     printf("%d x %d pixels, %zu bytes\n", WIDTH, HEIGHT, sizeof pixels);
-    size_t length = counted(rdp6_encode_bitmap(pixels, sizeof pixels, body, sizeof body, true, WIDTH, HEIGHT));
-    printf("R, G, B in RLE: %zu bytes\n", length);
-    unpack(true, false, length);
-    length = counted(rdp6_encode_bitmap_alpha(pixels, sizeof pixels, body, sizeof body, false, WIDTH, HEIGHT));
-    printf("A, R, G, B raw: %zu bytes\n", length);
-    unpack(false, true, length);
+    size_t length = counted(rdp6_stream_encode_bitmap(pixels, sizeof pixels, stream, sizeof stream, true, WIDTH, HEIGHT));
+    unpack("R, G, B in RLE", length);
+    length = counted(rdp6_stream_encode_bitmap_alpha(pixels, sizeof pixels, stream, sizeof stream, false, WIDTH, HEIGHT));
+    stream[0] &= 0xDF; /* clears bit 5, which the packer sets for four planes too: there is an alpha plane */
+    unpack("A, R, G, B raw", length);
     const char *path = argc > 1 ? argv[1] : "target/examples/round_trip.ppm";
     write_ppm(path, (struct picture){WIDTH, HEIGHT, image});
     printf("%s written\n", path);

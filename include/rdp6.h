@@ -16,20 +16,25 @@
  * Arguments. A bool must be 0 or 1. C and C++ convert to that by themselves; a caller in another language must do so too. Every other
  * number may have any value.
  *
- * Row order. The first row in a body is the first row of the image. RDP bitmap updates carry their rows bottom up: flip the rows after
- * unpacking one, and before packing one. Other codecs, such as FreeRDP's, flip them by themselves (FORMAT 1.5).
+ * Streams and bodies. A stream is a header byte and a body (FORMAT 1). The functions rdp6_stream_NAME read and write streams; most callers
+ * need no others. rdp6_NAME does the same for a body, for a caller with a parser of its own for the header byte.
  *
- * Header byte. A stream is a header byte and a body (FORMAT 1). These functions read and write bodies; the caller reads and writes the
- * header byte:
+ * Header byte. The first byte of a stream:
  *
  *   bits 0 to 2 (0x07)   the loss level; 0 is ARGB, 1 to 7 are AYCoCg
- *   bit 3 (0x08)         AYCoCg: the chroma planes are subsampled
+ *   bit 3 (0x08)         AYCoCg: the chroma planes are subsampled. ARGB: 0 when written, ignored when read
  *   bit 4 (0x10)         the planes are RLE planes, else raw samples
  *   bit 5 (0x20)         there is no alpha plane
  *   bits 6 and 7         0 when written, ignored when read
  *
- * Four planes. A sender sets the alpha flag, that is, leaves bit 5 clear (header byte 0x10 for RLE, 0x00 for raw); whoever unpacks passes
- * alpha as true.
+ * Pad byte. The last byte of a raw stream. It is 0 when written and ignored when read. An RLE stream has none.
+ *
+ * Four planes. A stream packer writes 0x30 (RLE) or 0x20 (raw) before four planes too, as IronRDP does. These say that there is no alpha
+ * plane, so a receiver takes A for R, R for G and G for B. To tell receivers of the alpha plane, clear bit 5 of the stream's first byte:
+ * dst[0] &= 0xDF. A body of four planes is sent with the header byte 0x10 (RLE) or 0x00 (raw); whoever unpacks it passes alpha as true.
+ *
+ * Row order. The first row in a stream or a body is the first row of the image. RDP bitmap updates carry their rows bottom up: flip the rows
+ * after unpacking one, and before packing one. Other codecs, such as FreeRDP's, flip them by themselves (FORMAT 1.5).
  *
  * Threads. There is no state: any number of threads may call at once, each with its own buffers.
  *
@@ -67,7 +72,9 @@ enum rdp6_refusal {
     RDP6_SEGMENT_DO_NOT_FIT_SCANLINE = 9,      /* a segment overruns its row */
     RDP6_SHORT_PLANE = 10,                     /* the destination is shorter than width * height bytes */
     RDP6_NOT_ENOUGH_BYTES = 11,                /* a source has fewer than width * height samples or complete pixels */
-    RDP6_BUFFER_TOO_SMALL = 12                 /* the next segment, or the raw body, does not fit into the destination */
+    RDP6_BUFFER_TOO_SMALL = 12,                /* the next segment, or the raw body, does not fit into the destination */
+    RDP6_EMPTY_STREAM = 13,                    /* the stream is empty */
+    RDP6_MISSING_PAD = 14                      /* a raw stream has no pad byte */
 };
 
 /*
@@ -101,38 +108,93 @@ static inline const char *rdp6_refusal_text(int64_t number)
         return "a source has fewer than width * height samples or complete pixels";
     case RDP6_BUFFER_TOO_SMALL:
         return "the next segment, or the raw body, does not fit into the destination";
+    case RDP6_EMPTY_STREAM:
+        return "the stream is empty";
+    case RDP6_MISSING_PAD:
+        return "a raw stream has no pad byte";
     default:
         return "no refusal has this number";
     }
 }
 
-/*
- * Unpacks an RLE plane of width * height samples (FORMAT 4; MS-RDPEGDI 3.1.9.2) from src into the first width * height bytes of dst,
- * and returns the number of bytes that its segments take. What follows them in src may be read, but has no effect.
- *
- * Refusals, checked in this order:
- *    1  width or height is 0          }
- *    2  width or height is over 8192  }  dst is unchanged
- *   10  dst_len < width * height      }
- *    7  a control byte or a raw byte is missing   }  the rows before are complete; the refused row has the coded values of its
- *    8  a control byte is 0                       }  earlier segments, the row above not yet added; the rest of dst is unchanged
- *    9  a segment overruns its row                }  (coded values: FORMAT 4.1)
- * Within one segment: missing control byte (7), control byte 0 (8), missing raw bytes (7), then 9.
- */
-int64_t rdp6_decompress_8bpp_plane(const uint8_t *src, size_t src_len, uint8_t *dst, size_t dst_len, size_t width, size_t height);
+/* Streams. */
 
 /*
- * Packs a plane (FORMAT 5), the first width * height bytes of src, row by row, into the first bytes of dst, and returns the number of
- * bytes written. What follows the samples in src is not read. At most two bytes a sample are written: with a dst of 2 * width *
- * height bytes there is no refusal 12.
+ * Unpacks a picture (FORMAT 2, 6; MS-RDPEGDI 2.2.2.5.1, 3.1.9.1) from its stream into the first 3 * width * height bytes of image: R, G and
+ * B of each pixel, row by row. Returns that number. The body is what follows the header byte, in a raw stream without the pad byte. It is
+ * unpacked as rdp6_decode does: the comment there has its minimum size, the order of colours, and what is in work afterwards.
  *
- * Refusals, checked in this order:
- *    1  width or height is 0          }
- *    2  width or height is over 8192  }  dst is unchanged
- *   11  src_len < width * height      }
- *   12  the next segment does not fit into dst: the segments before it are written, the rest of dst is unchanged
+ * The minimum lengths are
+ *
+ *   stream_len  RLE: 1 + the minimum size of the body; raw: 2 + that, for the pad byte. A longer stream is accepted: what follows the last
+ *               plane has no effect
+ *   work_len    what rdp6_stream_work_size returns. A raw picture does not use work, which may be NULL with length 0
+ *   image_len   3 * width * height, which rdp6_image_size computes
+ *
+ * Refusals, checked in this order. None of them changes image:
+ *   13  stream_len is 0                                      }
+ *   14  the stream is raw and stream_len is 1: no pad byte   }
+ *    1  width or height is 0                                 }
+ *    2  width or height is over 8192                         }  work is unchanged too
+ *    4  the body is shorter than its minimum size            }
+ *    5  work_len is below its minimum (RLE only)             }
+ *    6  image_len is below its minimum                       }
+ *    7  a control byte or a raw byte is missing   }  RLE only. In work the colour planes before are complete, the refused plane is as
+ *    8  a control byte is 0                       }  rdp6_decompress_8bpp_plane leaves it. If it is the first colour plane, the part
+ *    9  a segment overruns its row                }  that it did not write still has alpha, if there is any
+ * Refusal 3 never occurs: a header byte has no loss level but 0, which is ARGB, and 1 to 7. A raw stream of two bytes has an empty body,
+ * which is refusal 4.
  */
-int64_t rdp6_compress_8bpp_plane(const uint8_t *src, size_t src_len, uint8_t *dst, size_t dst_len, size_t width, size_t height);
+int64_t rdp6_stream_decode(const uint8_t *stream, size_t stream_len, uint8_t *work, size_t work_len, uint8_t *image, size_t image_len,
+                           size_t width, size_t height);
+
+/*
+ * The minimum work_len for rdp6_stream_decode: the size of the picture's three colour planes, or 0 if it is raw. Only the header byte is
+ * read, so the first byte of a stream is enough. Returns 0 for an empty stream and for sides that are refused.
+ */
+size_t rdp6_stream_work_size(const uint8_t *stream, size_t stream_len, size_t width, size_t height);
+
+/* The minimum image_len for rdp6_stream_decode and rdp6_decode, 3 * width * height. Returns 0 for sides that are refused. */
+size_t rdp6_image_size(size_t width, size_t height);
+
+/*
+ * Packs a picture (FORMAT 7; MS-RDPEGDI 2.2.2.5.1) from its R, G and B into a stream, the first bytes of dst, and returns the number of bytes
+ * written, with the header byte. Behind the header byte is the body that rdp6_encode_channels writes.
+ *
+ *   r, g, b   one channel each, one byte a pixel, row by row. What follows the first width * height bytes is not read
+ *   rle       true: 0x30, then three RLE planes, at most 6 * width * height + 1 bytes: with a dst of that size there is no refusal 12
+ *             false: 0x20, then the samples of the three planes, then the pad byte: 3 * width * height + 2 bytes
+ *
+ * Refusals, checked in this order. None of them changes dst[0], since the header byte is written last:
+ *    1  width or height is 0                             }
+ *    2  width or height is over 8192                     }  dst is unchanged
+ *   11  r_len, g_len or b_len is below width * height    }
+ *   12  RLE: dst is empty, or the next segment does not fit into it: the segments before it are written, from dst[1] on, the rest of dst is
+ *       unchanged
+ *       raw: the stream does not fit into dst, which is unchanged
+ */
+int64_t rdp6_stream_encode_channels(const uint8_t *r, size_t r_len, const uint8_t *g, size_t g_len, const uint8_t *b, size_t b_len,
+                                    uint8_t *dst, size_t dst_len, bool rle, size_t width, size_t height);
+
+/*
+ * The same with an alpha plane, which is the first: A, R, G, B. An RLE stream has at most 8 * width * height + 1 bytes, a raw stream 4 *
+ * width * height + 2. Refusal 11 is checked for a_len too. The header byte is 0x30 or 0x20 here too ("Four planes" above).
+ */
+int64_t rdp6_stream_encode_channels_alpha(const uint8_t *r, size_t r_len, const uint8_t *g, size_t g_len, const uint8_t *b, size_t b_len,
+                                          const uint8_t *a, size_t a_len, uint8_t *dst, size_t dst_len, bool rle, size_t width,
+                                          size_t height);
+
+/*
+ * The same as rdp6_stream_encode_channels, from pixels: src has four bytes a pixel, B, G, R, A, row by row. A is not packed. What follows
+ * the first width * height pixels is not read. Refusal 11 if src_len / 4 is below width * height.
+ */
+int64_t rdp6_stream_encode_bitmap(const uint8_t *src, size_t src_len, uint8_t *dst, size_t dst_len, bool rle, size_t width, size_t height);
+
+/* The same as rdp6_stream_encode_channels_alpha, from such pixels. */
+int64_t rdp6_stream_encode_bitmap_alpha(const uint8_t *src, size_t src_len, uint8_t *dst, size_t dst_len, bool rle, size_t width,
+                                        size_t height);
+
+/* Bodies. */
 
 /* What the colour planes of a picture are. */
 enum rdp6_definition {
@@ -184,9 +246,6 @@ int64_t rdp6_decode(bool rle, bool alpha, uint32_t definition, uint32_t color_lo
  */
 size_t rdp6_work_size(bool rle, uint32_t definition, bool chroma_subsampling, size_t width, size_t height);
 
-/* The minimum image_len of a picture, 3 * width * height. Returns 0 for sides that are refused. */
-size_t rdp6_image_size(size_t width, size_t height);
-
 /*
  * Packs a picture (FORMAT 7; MS-RDPEGDI 2.2.2.5.1) from its R, G and B into the first bytes of dst, and returns the number of bytes
  * written. They are the body; the caller sends a header byte before it.
@@ -205,28 +264,56 @@ size_t rdp6_image_size(size_t width, size_t height);
  *   12  RLE: the next segment does not fit into dst: the segments before it are written, the rest of dst is unchanged
  *       raw: the body does not fit into dst, which is unchanged
  */
-int64_t rdp6_encode_channels_stream(const uint8_t *r, size_t r_len, const uint8_t *g, size_t g_len, const uint8_t *b, size_t b_len,
-                                    uint8_t *dst, size_t dst_len, bool rle, size_t width, size_t height);
+int64_t rdp6_encode_channels(const uint8_t *r, size_t r_len, const uint8_t *g, size_t g_len, const uint8_t *b, size_t b_len,
+                             uint8_t *dst, size_t dst_len, bool rle, size_t width, size_t height);
 
 /*
  * The same with an alpha plane, which is the first: A, R, G, B. An RLE body has at most 8 * width * height bytes, a raw body 4 *
  * width * height + 1. Refusal 11 is checked for a_len too.
  *
- * A sender sets the alpha flag (header byte 0x10 for RLE, 0x00 for raw); whoever unpacks passes alpha as true. IronRDP's encoder sends
- * 0x30 and 0x20 here too; with these a receiver takes A for R, R for G and G for B.
+ * The header byte for the body is 0x10 for RLE and 0x00 for raw: ARGB with alpha.
  */
-int64_t rdp6_encode_channels_stream_alpha(const uint8_t *r, size_t r_len, const uint8_t *g, size_t g_len, const uint8_t *b, size_t b_len,
-                                          const uint8_t *a, size_t a_len, uint8_t *dst, size_t dst_len, bool rle, size_t width,
-                                          size_t height);
+int64_t rdp6_encode_channels_alpha(const uint8_t *r, size_t r_len, const uint8_t *g, size_t g_len, const uint8_t *b, size_t b_len,
+                                   const uint8_t *a, size_t a_len, uint8_t *dst, size_t dst_len, bool rle, size_t width, size_t height);
 
 /*
- * The same as rdp6_encode_channels_stream, from pixels: src has four bytes a pixel, B, G, R, A, row by row. A is not packed. What
- * follows the first width * height pixels is not read. Refusal 11 if src_len / 4 is below width * height.
+ * The same as rdp6_encode_channels, from pixels: src has four bytes a pixel, B, G, R, A, row by row. A is not packed. What follows the
+ * first width * height pixels is not read. Refusal 11 if src_len / 4 is below width * height.
  */
 int64_t rdp6_encode_bitmap(const uint8_t *src, size_t src_len, uint8_t *dst, size_t dst_len, bool rle, size_t width, size_t height);
 
-/* The same as rdp6_encode_channels_stream_alpha, from such pixels. */
+/* The same as rdp6_encode_channels_alpha, from such pixels. */
 int64_t rdp6_encode_bitmap_alpha(const uint8_t *src, size_t src_len, uint8_t *dst, size_t dst_len, bool rle, size_t width, size_t height);
+
+/* Planes. */
+
+/*
+ * Unpacks an RLE plane of width * height samples (FORMAT 4; MS-RDPEGDI 3.1.9.2) from src into the first width * height bytes of dst,
+ * and returns the number of bytes that its segments take. What follows them in src may be read, but has no effect.
+ *
+ * Refusals, checked in this order:
+ *    1  width or height is 0          }
+ *    2  width or height is over 8192  }  dst is unchanged
+ *   10  dst_len < width * height      }
+ *    7  a control byte or a raw byte is missing   }  the rows before are complete; the refused row has the coded values of its
+ *    8  a control byte is 0                       }  earlier segments, the row above not yet added; the rest of dst is unchanged
+ *    9  a segment overruns its row                }  (coded values: FORMAT 4.1)
+ * Within one segment: missing control byte (7), control byte 0 (8), missing raw bytes (7), then 9.
+ */
+int64_t rdp6_decompress_8bpp_plane(const uint8_t *src, size_t src_len, uint8_t *dst, size_t dst_len, size_t width, size_t height);
+
+/*
+ * Packs a plane (FORMAT 5), the first width * height bytes of src, row by row, into the first bytes of dst, and returns the number of
+ * bytes written. What follows the samples in src is not read. At most two bytes a sample are written: with a dst of 2 * width *
+ * height bytes there is no refusal 12.
+ *
+ * Refusals, checked in this order:
+ *    1  width or height is 0          }
+ *    2  width or height is over 8192  }  dst is unchanged
+ *   11  src_len < width * height      }
+ *   12  the next segment does not fit into dst: the segments before it are written, the rest of dst is unchanged
+ */
+int64_t rdp6_compress_8bpp_plane(const uint8_t *src, size_t src_len, uint8_t *dst, size_t dst_len, size_t width, size_t height);
 
 #ifdef __cplusplus
 }

@@ -1,4 +1,5 @@
-//! Unpacks a small picture complete, truncated, and with an invalid loss level, into slices that are made once.
+//! Unpacks a small picture from its body, as a program with a parser of its own for the header byte does: complete, truncated, and with an
+//! invalid loss level, into slices that are made once. round_trip.rs shows whole streams.
 //!
 //!     cargo run --offline --example picture
 

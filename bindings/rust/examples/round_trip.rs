@@ -1,5 +1,5 @@
-//! Draws a picture in BGRA, packs it as RLE without alpha and raw with alpha, unpacks both, checks that R, G and B are the same, and
-//! writes a PPM file to the path given or to target/examples/round_trip.ppm.
+//! Draws a picture in BGRA, packs it into two streams, RLE without alpha and raw with alpha, unpacks both, checks that R, G and B are the same,
+//! and writes a PPM file to the path given or to target/examples/round_trip.ppm.
 //!
 //!     cargo run --offline --example round_trip
 
@@ -7,7 +7,7 @@ use std::error::Error;
 use std::fs;
 use std::path::{Path, PathBuf};
 
-use rdp6::{BgrAChannels, BitmapStreamDecoder, BitmapStreamEncoder, BitmapStreamHeader, Refusal};
+use rdp6::{stream_work_size, BgrAChannels, BitmapStreamDecoder, BitmapStreamEncoder, Refusal};
 
 const WIDTH: usize = 160;
 const HEIGHT: usize = 120;
@@ -37,27 +37,29 @@ fn draw() -> Vec<u8> {
     colors.flat_map(|[r, g, b]| [b, g, r, 255]).collect()
 }
 
-/// Packs the pixels, with their alpha or without: the body, and the header to unpack it with.
-fn encode(alpha: bool, rle: bool, pixels: &[u8]) -> Result<(BitmapStreamHeader, Vec<u8>), Refusal> {
-    // Always enough: four planes of at most two bytes a sample, or raw ones and a byte.
-    let mut body = vec![0; 8 * AREA];
+/// Packs the pixels, with their alpha or without, into a stream.
+fn encode(alpha: bool, rle: bool, pixels: &[u8]) -> Result<Vec<u8>, Refusal> {
+    // Always enough: the header byte, and four planes of at most two bytes a sample, or raw ones and the pad byte.
+    let mut stream = vec![0; 1 + 8 * AREA];
     let mut encoder = BitmapStreamEncoder::new(WIDTH, HEIGHT);
-    let packed = if alpha {
-        encoder.encode_bitmap_alpha::<BgrAChannels>(pixels, &mut body, rle)?
+    let count = if alpha {
+        encoder.encode_bitmap_alpha::<BgrAChannels>(pixels, &mut stream, rle)?
     } else {
-        encoder.encode_bitmap::<BgrAChannels>(pixels, &mut body, rle)?
+        encoder.encode_bitmap::<BgrAChannels>(pixels, &mut stream, rle)?
     };
-    body.truncate(packed.bytes);
-    // For four planes the sender sets the alpha flag.
-    Ok((BitmapStreamHeader { use_alpha: alpha, ..packed.header }, body))
+    stream.truncate(count);
+    if alpha {
+        stream[0] &= !0x20; // there is an alpha plane: the encoder sets the bit for four planes too
+    }
+    Ok(stream)
 }
 
 /// Packs and unpacks the pixels; the image.
 fn round_trip(what: &str, alpha: bool, rle: bool, pixels: &[u8]) -> Result<Vec<u8>, Box<dyn Error>> {
-    let (header, body) = encode(alpha, rle, pixels)?;
-    println!("{what}: {} bytes", body.len());
+    let stream = encode(alpha, rle, pixels)?;
+    println!("{what}: {} bytes, work area {} bytes", stream.len(), stream_work_size(&stream, WIDTH, HEIGHT));
     let mut image = Vec::new();
-    BitmapStreamDecoder::default().decode_body_to_rgb24(header, &body, &mut image, WIDTH, HEIGHT)?;
+    BitmapStreamDecoder::default().decode_bitmap_stream_to_rgb24(&stream, &mut image, WIDTH, HEIGHT)?;
     let differs = |(pixel, rgb): (&[u8], &[u8])| rgb != [pixel[2], pixel[1], pixel[0]];
     if let Some(i) = pixels.chunks(4).zip(image.chunks(3)).position(differs) {
         return Err(format!("pixel {i} differs").into());

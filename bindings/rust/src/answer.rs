@@ -26,13 +26,13 @@ mod tests {
         assert_eq!(to_result(0), Ok(0));
         assert_eq!(to_result(201_326_592), Ok(201_326_592));
         assert_eq!(to_result(-1), Err(Refusal::ZeroSize));
-        assert_eq!(to_result(-12), Err(Refusal::BufferTooSmall));
+        assert_eq!(to_result(-14), Err(Refusal::MissingPad));
     }
 
     #[test]
-    #[should_panic(expected = "librdp6.a returned -13")]
+    #[should_panic(expected = "librdp6.a returned -100")]
     fn an_unknown_number_is_no_refusal() {
-        let _ = to_result(-13);
+        let _ = to_result(-100);
     }
 
     #[test]

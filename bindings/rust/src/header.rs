@@ -14,30 +14,21 @@ pub enum ColorPlaneDefinition {
     },
 }
 
-/// What the header byte of a picture says. The caller reads and writes the byte (MS-RDPEGDI 2.2.2.5.1):
+/// What the header byte of a picture says. Only the body forms take or return it: [`decode`](crate::decode) and the methods with `body` in
+/// their names. The stream forms read and write the byte itself (MS-RDPEGDI 2.2.2.5.1):
 ///
 /// | Bits | Meaning |
 /// |---|---|
 /// | 0 to 2 (`0x07`) | the loss level; 0 is ARGB, 1 to 7 are AYCoCg |
-/// | 3 (`0x08`) | AYCoCg: the chroma planes are subsampled |
+/// | 3 (`0x08`) | AYCoCg: the chroma planes are subsampled. ARGB: 0 when written, ignored when read |
 /// | 4 (`0x10`) | the planes are RLE planes, else raw samples |
 /// | 5 (`0x20`) | there is *no* alpha plane |
 /// | 6 and 7 | 0 when written, ignored when read |
 ///
-/// **Four planes.** A sender sets the alpha flag (header byte `0x10` for RLE, `0x00` for raw); whoever unpacks passes `use_alpha` as true.
+/// The record of a byte, for a caller of the body forms:
 ///
 /// ```
 /// use rdp6::{BitmapStreamHeader, ColorPlaneDefinition};
-///
-/// fn header_byte(header: BitmapStreamHeader) -> u8 {
-///     let definition = match header.color_plane_definition {
-///         ColorPlaneDefinition::Argb => 0,
-///         ColorPlaneDefinition::AYCoCg { color_loss_level, use_chroma_subsampling } => {
-///             color_loss_level | (u8::from(use_chroma_subsampling) << 3)
-///         }
-///     };
-///     definition | (u8::from(header.enable_rle_compression) << 4) | (u8::from(!header.use_alpha) << 5)
-/// }
 ///
 /// fn header_of(byte: u8) -> BitmapStreamHeader {
 ///     let color_plane_definition = match byte & 0x07 {
@@ -53,10 +44,7 @@ pub enum ColorPlaneDefinition {
 ///
 /// let header = header_of(0x10);
 /// assert!(header.enable_rle_compression && header.use_alpha);
-/// # for byte in (0..64).filter(|byte| byte & 0x0F != 0x08) {
-/// #     assert_eq!(header_byte(header_of(byte)), byte);
-/// # }
-/// assert_eq!(header_byte(header), 0x10);
+/// # assert_eq!(header.color_plane_definition, ColorPlaneDefinition::Argb);
 /// ```
 #[derive(Clone, Copy, Debug, PartialEq, Eq, Hash)]
 pub struct BitmapStreamHeader {

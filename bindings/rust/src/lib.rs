@@ -1,7 +1,7 @@
 //! RDP 6.0 planar bitmaps (MS-RDPEGDI 2.2.2.5.1, 3.1.9): safe functions over the static library `librdp6.a`, with the names of IronRDP's
 //! `rdp6`, of which the library is a port. docs/FORMAT.md of the repository specifies the format and the behaviour.
 //!
-//! Packing a picture, and unpacking its body:
+//! Packing a picture into a stream, and unpacking it:
 //!
 //! ```
 //! use rdp6::{BgrAChannels, BitmapStreamDecoder, BitmapStreamEncoder};
@@ -10,15 +10,14 @@
 //! let (width, height) = (64, 2);
 //! let pixels: Vec<u8> = [[30, 110, 230, 255]; 128].concat(); // B, G, R, A
 //!
-//! // Six bytes a pixel are always enough.
-//! let mut body = vec![0; 6 * width * height];
-//! let packed = BitmapStreamEncoder::new(width, height).encode_bitmap::<BgrAChannels>(&pixels, &mut body, true)?;
-//! body.truncate(packed.bytes);
-//! assert_eq!(body.len(), 30);
+//! // Six bytes a pixel and one for the header byte are always enough.
+//! let mut stream = vec![0; 6 * width * height + 1];
+//! let count = BitmapStreamEncoder::new(width, height).encode_bitmap::<BgrAChannels>(&pixels, &mut stream, true)?;
+//! stream.truncate(count);
+//! assert_eq!(stream.len(), 31);
 //!
-//! // The receiver gets `packed.header` from the header byte, which the service reads and writes.
 //! let mut image = Vec::new();
-//! BitmapStreamDecoder::default().decode_body_to_rgb24(packed.header, &body, &mut image, width, height)?;
+//! BitmapStreamDecoder::default().decode_bitmap_stream_to_rgb24(&stream, &mut image, width, height)?;
 //! assert_eq!(image, [[230, 110, 30]; 128].concat()); // R, G, B
 //! # Ok(())
 //! # }
@@ -37,9 +36,10 @@
 //!
 //! | | allocates | |
 //! |---|---|---|
-//! | [`decode`], [`work_size`], [`image_size`] | no | unpacks a picture's body to R, G, B |
-//! | [`BitmapStreamDecoder`] | yes | the same, with a work area of its own, appended to a `Vec` |
-//! | [`BitmapStreamEncoder`] | no | packs channels or pixels to a picture's body |
+//! | [`stream_decode`], [`stream_work_size`], [`image_size`] | no | unpacks a picture's stream to R, G, B |
+//! | [`BitmapStreamDecoder`] | yes | the same, with a work area of its own, appended to a `Vec`; also from a body |
+//! | [`BitmapStreamEncoder`] | no | packs channels or pixels to a picture's stream, or to its body |
+//! | [`decode`], [`work_size`] | no | unpacks a picture's body |
 //! | [`decompress_8bpp_plane`], [`compress_8bpp_plane`] | no | unpacks and packs an RLE plane |
 //!
 //! The modules [`rle`], [`bitmap_stream::decoder`] and [`bitmap_stream::encoder`] have the names of IronRDP's, so that a service that used it
@@ -47,17 +47,16 @@
 //!
 //! # Header byte
 //!
-//! A stream is a header byte and a body. **No function here reads or writes the header byte**; the service does. Bits 0 to 2 (`0x07`) are the
-//! loss level, 0 for ARGB; bit 3 (`0x08`) is subsampling, bit 4 (`0x10`) RLE, bit 5 (`0x20`) *no* alpha. [`BitmapStreamHeader`] has a table
-//! and an example.
+//! A stream is a header byte and a body; the last byte of a raw stream is the pad byte. The stream forms read and write all of it. The body
+//! forms are for a service that has its own code for the header byte: [`BitmapStreamHeader`] has the bits.
 //!
-//! **Four planes.** The `use_alpha` that a packer returns is false for them too: a sender sets it (header byte `0x10` for RLE, `0x00` for raw);
-//! whoever unpacks passes it as true.
+//! **Four planes.** The header byte that is written for them says that there is no alpha plane, as IronRDP's does: a sender clears its bit 5,
+//! `stream[0] &= !0x20`. The `use_alpha` that a body form returns is false too: a sender sets it, and whoever unpacks passes it as true.
 //!
 //! # Row order
 //!
-//! The first row in a body is the first row of the image. RDP bitmap updates carry their rows bottom up: flip the rows after unpacking one, and
-//! before packing one. Other codecs, such as FreeRDP's, flip them by themselves.
+//! The first row in a stream or a body is the first row of the image. RDP bitmap updates carry their rows bottom up: flip the rows after
+//! unpacking one, and before packing one. Other codecs, such as FreeRDP's, flip them by themselves.
 //!
 //! # Slices, threads, stack
 //!
@@ -69,8 +68,8 @@
 //!
 //! Every function of the library is proved, for every input, to return, to stay inside its slices, and to give the answer and the bytes
 //! of its definition; see the repository's README. This crate is not proved. It is small: it passes slices with their lengths, converts the
-//! results, makes the header record of a packed picture, and extends vectors. Tests compare its declarations of the C functions, its numbers and its texts
-//! with include/rdp6.h.
+//! results, makes the header record of a packed body, and extends vectors. Tests compare its declarations of the C functions, its numbers and
+//! its texts with include/rdp6.h.
 
 #![deny(missing_docs, unsafe_op_in_unsafe_fn)]
 #![warn(clippy::undocumented_unsafe_blocks)]
@@ -83,7 +82,9 @@ mod refusal;
 pub mod rle;
 
 #[doc(inline)]
-pub use bitmap_stream::decoder::{decode, image_size, work_size, BitmapDecodeError, BitmapStreamDecoder};
+pub use bitmap_stream::decoder::{
+    decode, image_size, stream_decode, stream_work_size, work_size, BitmapDecodeError, BitmapStreamDecoder,
+};
 #[doc(inline)]
 pub use bitmap_stream::encoder::{
     AlphaChannel, BgrAChannels, BitmapEncodeError, BitmapStreamEncoder, ColorChannels, Encoded, PixelAlpha, PixelFormat,

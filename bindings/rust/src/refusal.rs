@@ -3,7 +3,7 @@
 use std::error::Error;
 use std::fmt;
 
-/// Why a call is refused: one of twelve numbers, which are the values of the variants.
+/// Why a call is refused: one of fourteen numbers, which are the values of the variants.
 ///
 /// Each function lists its refusals in the order in which they are checked, with what each leaves in the slices. The names are
 /// those of IronRDP's errors where it has one. Later versions may add numbers.
@@ -47,9 +47,13 @@ pub enum Refusal {
     NotEnoughBytes = 11,
     /// The next segment, or the raw body, does not fit into the destination.
     BufferTooSmall = 12,
+    /// The stream is empty.
+    EmptyStream = 13,
+    /// A raw stream has no pad byte.
+    MissingPad = 14,
 }
 
-const ALL: [Refusal; 12] = [
+const ALL: [Refusal; 14] = [
     Refusal::ZeroSize,
     Refusal::TooLarge,
     Refusal::LossLevel,
@@ -62,10 +66,12 @@ const ALL: [Refusal; 12] = [
     Refusal::ShortPlane,
     Refusal::NotEnoughBytes,
     Refusal::BufferTooSmall,
+    Refusal::EmptyStream,
+    Refusal::MissingPad,
 ];
 
 impl Refusal {
-    /// The number, 1 to 12. The C functions return it negated.
+    /// The number, 1 to 14. The C functions return it negated.
     pub const fn number(self) -> u8 {
         self as u8
     }
@@ -85,6 +91,8 @@ impl Refusal {
             Refusal::ShortPlane => "the destination is shorter than width * height bytes",
             Refusal::NotEnoughBytes => "a source has fewer than width * height samples or complete pixels",
             Refusal::BufferTooSmall => "the next segment, or the raw body, does not fit into the destination",
+            Refusal::EmptyStream => "the stream is empty",
+            Refusal::MissingPad => "a raw stream has no pad byte",
         }
     }
 }
@@ -109,7 +117,7 @@ impl From<Refusal> for u8 {
 /// use rdp6::Refusal;
 ///
 /// assert_eq!(Refusal::try_from(7), Ok(Refusal::ReadCompressedData));
-/// assert!(Refusal::try_from(13).is_err());
+/// assert!(Refusal::try_from(15).is_err());
 /// ```
 impl TryFrom<u8> for Refusal {
     type Error = UnknownNumber;

@@ -3,9 +3,23 @@
 mod support;
 
 use rdp6::{BitmapStreamDecoder, BitmapStreamHeader, Refusal};
-use support::{argb, aycocg, first, hex, Noise, REFUSED_SIDES};
+use support::{argb, aycocg, first, hex, split, Noise, REFUSED_SIDES};
 
-/// Unpacks a picture and appends it to two bytes.
+/// Unpacks a picture from its stream and appends it to two bytes. From its header record and its body, if it has them, the same is unpacked.
+fn unpack_stream(
+    decoder: &mut BitmapStreamDecoder,
+    stream: &str,
+    sides: (usize, usize),
+) -> (Result<(), Refusal>, Vec<u8>) {
+    let (stream, mut dst, mut dst_of_body) = (hex(stream), hex("AA BB"), hex("AA BB"));
+    let answer = decoder.decode_bitmap_stream_to_rgb24(&stream, &mut dst, sides.0, sides.1);
+    let answer_of_body = split(&stream)
+        .and_then(|(header, body)| decoder.decode_body_to_rgb24(header, body, &mut dst_of_body, sides.0, sides.1));
+    assert_eq!((answer, &dst), (answer_of_body, &dst_of_body), "{stream:02X?}");
+    (answer, dst)
+}
+
+/// Unpacks a picture from its body and appends it to two bytes.
 fn unpack(
     decoder: &mut BitmapStreamDecoder,
     header: BitmapStreamHeader,
@@ -24,6 +38,25 @@ fn images_are_appended() {
     decoder.decode_body_to_rgb24(argb(false, false), &[1, 2, 3], &mut dst, 1, 1).unwrap();
     decoder.decode_body_to_rgb24(argb(true, false), &hex("10 04 10 05 10 06"), &mut dst, 1, 1).unwrap();
     assert_eq!(dst, hex("AA 01 02 03 04 05 06"));
+    decoder.decode_bitmap_stream_to_rgb24(&hex("20 07 08 09 00"), &mut dst, 1, 1).unwrap();
+    decoder.decode_bitmap_stream_to_rgb24(&hex("30 10 0A 10 0B 10 0C"), &mut dst, 1, 1).unwrap();
+    assert_eq!(dst, hex("AA 01 02 03 04 05 06 07 08 09 0A 0B 0C"));
+}
+
+/// The same pictures as in `colours`, as streams.
+#[test]
+fn colours_of_streams() {
+    let mut decoder = BitmapStreamDecoder::default();
+    for (stream, sides, image) in [
+        ("01 FF 64 0A 14 00", (1, 1), "5A 78 46"),
+        ("19 10 FF 10 64 10 0A 10 14", (1, 1), "5A 78 46"),
+        ("31 10 64 10 0A 10 14", (1, 1), "46 78 5A"),
+        ("02 FF 64 40 00 00", (1, 1), "00 64 E4"),
+        ("09 FF*4 64*4 01 00 00", (2, 2), "65 64 63 65 64 63 65 64 63 65 64 63"),
+    ] {
+        let unpacked = unpack_stream(&mut decoder, stream, sides);
+        assert_eq!(unpacked, (Ok(()), hex(&format!("AA BB {image}"))), "{stream}");
+    }
 }
 
 /// Examples 15 and 16 of FORMAT 10, and a subsampled picture with its pad byte.
@@ -77,6 +110,33 @@ fn sides_are_checked_first() {
     }
 }
 
+/// 13 and 14 before all others, then the sides, then the body; the destination is unchanged.
+#[test]
+fn refused_streams_in_order() {
+    let mut decoder = BitmapStreamDecoder::default();
+    for (stream, refusal) in [("-", Refusal::EmptyStream), ("20", Refusal::MissingPad), ("0F", Refusal::MissingPad)] {
+        for (width, height) in [(1, 1), (0, 1), (8192, 8192), (8193, 8193), (usize::MAX, usize::MAX)] {
+            assert_eq!(unpack_stream(&mut decoder, stream, (width, height)), (Err(refusal), hex("AA BB")), "{stream}");
+        }
+    }
+    for (width, height, refusal) in REFUSED_SIDES {
+        for stream in ["30", "20 00", "20 01 02 03 00", "30 10 01 10 02 10 03"] {
+            assert_eq!(unpack_stream(&mut decoder, stream, (width, height)), (Err(refusal), hex("AA BB")), "{stream}");
+        }
+    }
+    for (stream, refusal) in [
+        ("20 00", Refusal::InvalidUncompressedDataSize),
+        ("30", Refusal::InvalidUncompressedDataSize),
+        ("20 01 02 03", Refusal::InvalidUncompressedDataSize),
+        ("30 10 01", Refusal::InvalidUncompressedDataSize),
+        ("30 10 64 10 0A 10", Refusal::ReadCompressedData),
+        ("30 10 64 00", Refusal::InvalidSegmentHeader),
+        ("30 10 64 20 0A 0A", Refusal::SegmentDoNotFitScanline),
+    ] {
+        assert_eq!(unpack_stream(&mut decoder, stream, (1, 1)), (Err(refusal), hex("AA BB")), "{stream}");
+    }
+}
+
 /// If the level, the body's length and its bytes are all wrong, the first of them is the refusal; the destination is unchanged.
 #[test]
 fn checks_come_in_order() {
@@ -124,6 +184,33 @@ fn refused_pictures_allocate_nothing() {
     assert_eq!(format!("{decoder:?}"), "BitmapStreamDecoder { planes_buffer: 0 bytes }");
     decoder.decode_body_to_rgb24(aycocg(true, false, 1, true), &hex("0F 04 04"), &mut dst, 15, 1).unwrap_err();
     assert_eq!(format!("{decoder:?}"), "BitmapStreamDecoder { planes_buffer: 31 bytes }");
+}
+
+/// Refusals 13, 14, 1, 2 and 4 of a stream allocate nothing either, also with a destination that has no room.
+#[test]
+fn refused_streams_allocate_nothing() {
+    let mut decoder = BitmapStreamDecoder::default();
+    let mut dst = Vec::new();
+    let long = |byte: u8| [&[byte][..], &[0xF2; 9000]].concat();
+    for (stream, sides, refusal) in [
+        (vec![], (8192, 8192), Refusal::EmptyStream),
+        (vec![0x20], (8192, 8192), Refusal::MissingPad),
+        (long(0x30), (0, 1), Refusal::ZeroSize),
+        (long(0x30), (8193, 8192), Refusal::TooLarge),
+        (vec![0x30], (8192, 8192), Refusal::InvalidUncompressedDataSize),
+        (vec![0x20, 0], (8192, 8192), Refusal::InvalidUncompressedDataSize),
+        (long(0x30), (8192, 8192), Refusal::InvalidUncompressedDataSize),
+        (long(0x20), (8192, 8192), Refusal::InvalidUncompressedDataSize),
+    ] {
+        assert_eq!(decoder.decode_bitmap_stream_to_rgb24(&stream, &mut dst, sides.0, sides.1), Err(refusal));
+        assert_eq!(dst.capacity(), 0);
+        assert_eq!(format!("{decoder:?}"), "BitmapStreamDecoder { planes_buffer: 0 bytes }");
+    }
+    decoder.decode_bitmap_stream_to_rgb24(&hex("20 01 02 03 00"), &mut dst, 1, 1).unwrap();
+    assert_eq!(format!("{decoder:?}"), "BitmapStreamDecoder { planes_buffer: 0 bytes }");
+    decoder.decode_bitmap_stream_to_rgb24(&hex("39 0F 04 04"), &mut dst, 15, 1).unwrap_err();
+    assert_eq!(format!("{decoder:?}"), "BitmapStreamDecoder { planes_buffer: 31 bytes }");
+    assert_eq!(dst, [1, 2, 3]);
 }
 
 /// A clone unpacks the same, with a work area of its own that is empty at first.

@@ -98,7 +98,7 @@ fn rust_functions(source: &str) -> Vec<Function> {
 #[test]
 fn the_declarations_are_those_of_the_header() {
     let functions = c_functions(&read("../../include/rdp6.h"));
-    assert_eq!(functions.len(), 9, "the functions of the header");
+    assert_eq!(functions.len(), 15, "the functions of the header");
     assert_eq!(rust_functions(&read("src/ffi.rs")), functions);
 }
 
@@ -114,6 +114,9 @@ fn another_declaration_is_found() {
         ("uint8_t *dst, size_t dst_len, bool rle", "const uint8_t *dst, size_t dst_len, bool rle"),
         ("size_t rdp6_image_size", "int64_t rdp6_image_size"),
         ("rdp6_encode_bitmap(", "rdp6_encode_pixels("),
+        ("rdp6_stream_encode_bitmap(", "rdp6_encode_bitmap_stream("),
+        ("int64_t rdp6_stream_decode(const uint8_t *stream", "int64_t rdp6_stream_decode(uint8_t *stream"),
+        ("size_t rdp6_stream_work_size(const uint8_t *stream, size_t stream_len,", "size_t rdp6_stream_work_size("),
         ("const uint8_t *a, size_t a_len, ", ""),
     ] {
         let edited = header.replace(from, to);
@@ -143,7 +146,7 @@ fn rust_name(c: &str) -> String {
 #[test]
 fn the_refusals_are_those_of_the_header() {
     let cases = c_enum(&read("../../include/rdp6.h"), "rdp6_refusal");
-    assert_eq!(cases.iter().map(|(_, number)| *number).collect::<Vec<_>>(), (1..=12).collect::<Vec<u8>>());
+    assert_eq!(cases.iter().map(|(_, number)| *number).collect::<Vec<_>>(), (1..=14).collect::<Vec<u8>>());
     for (name, number) in cases {
         let refusal = Refusal::try_from(number).expect("a refusal of that number");
         assert_eq!(format!("{refusal:?}"), rust_name(&name));
@@ -191,7 +194,7 @@ fn rust_texts(header: &str) -> Vec<(String, String)> {
 #[test]
 fn the_texts_are_those_of_the_header() {
     let header = read("../../include/rdp6.h");
-    assert_eq!(rust_texts(&header).len(), 13);
+    assert_eq!(rust_texts(&header).len(), 15);
     assert_eq!(c_texts(&header), rust_texts(&header));
 }
 
@@ -201,6 +204,7 @@ fn another_text_is_found() {
     for (from, to) in [
         ("\"a control byte is 0\"", "\"a control byte is 1\""),
         ("case RDP6_SHORT_PLANE:", "case RDP6_SHORT_IMAGE:"),
+        ("\"the stream is empty\"", "\"a raw stream has no pad byte\""),
         ("    case RDP6_SHORT_WORK:\n        return \"the work area is shorter than the three colour planes\";\n", ""),
         ("\"no refusal has this number\"", "\"\""),
     ] {

@@ -1,42 +1,32 @@
-//! Packing a picture. The expected results are written from docs/FORMAT.md.
+//! Packing a picture, as a stream and as a body. The expected results are written from docs/FORMAT.md.
 
 mod support;
 
 use rdp6::{
-    AlphaChannel, BgrAChannels, BitmapEncodeError, BitmapStreamEncoder, ColorChannels, Encoded, PixelAlpha,
-    PixelFormat, Refusal,
+    decode, stream_decode, stream_work_size, AlphaChannel, BgrAChannels, BitmapEncodeError, BitmapStreamEncoder,
+    ColorChannels, Encoded, PixelAlpha, PixelFormat, Refusal,
 };
 use support::{argb, hex, Guarded, Noise, REFUSED_SIDES};
 
-/// Which of the four methods is called.
+/// Which of the eight methods is called, and how.
 #[derive(Clone, Copy, Debug)]
 struct Form {
+    stream: bool,
     pixels: bool,
     alpha: bool,
     rle: bool,
 }
 
-const FORMS: [Form; 8] = {
-    const fn form(pixels: bool, alpha: bool, rle: bool) -> Form {
-        Form { pixels, alpha, rle }
-    }
-    [
-        form(false, false, false),
-        form(false, false, true),
-        form(false, true, false),
-        form(false, true, true),
-        form(true, false, false),
-        form(true, false, true),
-        form(true, true, false),
-        form(true, true, true),
-    ]
-};
+/// All forms.
+fn forms() -> impl Iterator<Item = Form> {
+    (0..16).map(|i| Form { stream: i & 8 != 0, pixels: i & 4 != 0, alpha: i & 2 != 0, rle: i & 1 != 0 })
+}
 
 /// The samples of R, G, B and A.
 type Channels = [Vec<u8>; 4];
 
-/// The answer, and the destination after the call. Before it all its bytes are `EE`.
-type Outcome = (Result<Encoded, Refusal>, Vec<u8>);
+/// The number of bytes or the refusal, and the destination after the call. Before it all its bytes are `EE`.
+type Outcome = (Result<usize, Refusal>, Vec<u8>);
 
 /// Pixels of B, G, R, A, as many as the shortest channel has samples.
 fn bgra([r, g, b, a]: &Channels) -> Vec<u8> {
@@ -44,22 +34,56 @@ fn bgra([r, g, b, a]: &Channels) -> Vec<u8> {
     (0..count).flat_map(|i| [b[i], g[i], r[i], a[i]]).collect()
 }
 
+/// Calls a method that packs a body, and checks the header record: FORMAT 7.5, its alpha flag is false for four planes too.
+fn pack_body(
+    form: Form,
+    encoder: &mut BitmapStreamEncoder,
+    channels: &Channels,
+    dst: &mut [u8],
+) -> Result<usize, Refusal> {
+    let [r, g, b, a] = channels;
+    let answer = match (form.pixels, form.alpha) {
+        (false, false) => encoder.encode_channels_body((r, g, b), dst, form.rle),
+        (false, true) => encoder.encode_channels_body_alpha((r, g, b, a), dst, form.rle),
+        (true, false) => encoder.encode_bitmap_body::<BgrAChannels>(&bgra(channels), dst, form.rle),
+        (true, true) => encoder.encode_bitmap_body_alpha::<BgrAChannels>(&bgra(channels), dst, form.rle),
+    };
+    answer.map(|Encoded { bytes, header }| {
+        assert_eq!(header, argb(form.rle, false));
+        bytes
+    })
+}
+
+fn pack_stream(
+    form: Form,
+    encoder: &mut BitmapStreamEncoder,
+    channels: &Channels,
+    dst: &mut [u8],
+) -> Result<usize, Refusal> {
+    let [r, g, b, a] = channels;
+    match (form.pixels, form.alpha) {
+        (false, false) => encoder.encode_channels_stream((r, g, b), dst, form.rle),
+        (false, true) => encoder.encode_channels_stream_alpha((r, g, b, a), dst, form.rle),
+        (true, false) => encoder.encode_bitmap::<BgrAChannels>(&bgra(channels), dst, form.rle),
+        (true, true) => encoder.encode_bitmap_alpha::<BgrAChannels>(&bgra(channels), dst, form.rle),
+    }
+}
+
 fn pack(form: Form, channels: &Channels, room: usize, sides: (usize, usize)) -> Outcome {
     let mut dst = Guarded::filled(0xEE, room);
     let mut encoder = BitmapStreamEncoder::new(sides.0, sides.1);
-    let [r, g, b, a] = channels;
-    let answer = match (form.pixels, form.alpha) {
-        (false, false) => encoder.encode_channels_stream((r, g, b), dst.slice(), form.rle),
-        (false, true) => encoder.encode_channels_stream_alpha((r, g, b, a), dst.slice(), form.rle),
-        (true, false) => encoder.encode_bitmap::<BgrAChannels>(&bgra(channels), dst.slice(), form.rle),
-        (true, true) => encoder.encode_bitmap_alpha::<BgrAChannels>(&bgra(channels), dst.slice(), form.rle),
-    };
+    let pack = if form.stream { pack_stream } else { pack_body };
+    let answer = pack(form, &mut encoder, channels, dst.slice());
     (answer, dst.after().to_vec())
 }
 
-/// FORMAT 7.5 and 8.4: the number of bytes, and the header record to send, whose alpha flag is false for four planes too.
-fn sent(bytes: usize, rle: bool) -> Result<Encoded, Refusal> {
-    Ok(Encoded { bytes, header: argb(rle, false) })
+/// The header byte of a stream: the same for three planes and for four. A body has none.
+fn header_byte(form: Form) -> Vec<u8> {
+    hex(match (form.stream, form.rle) {
+        (false, _) => "-",
+        (true, false) => "20",
+        (true, true) => "30",
+    })
 }
 
 fn one_pixel() -> Channels {
@@ -91,40 +115,64 @@ fn pieces(form: Form, samples: &Channels, segments: &[Vec<Vec<u8>>; 4]) -> Vec<V
     vec![[sent_planes(form, samples).concat(), vec![0]].concat()]
 }
 
-/// With destinations of every length: as many complete pieces as fit are written, and the rest is unchanged.
+/// What is written with all the room that is needed: the header byte of a stream, and the body.
+fn complete(form: Form, samples: &Channels, segments: &[Vec<Vec<u8>>; 4]) -> Vec<u8> {
+    [header_byte(form), pieces(form, samples, segments).concat()].concat()
+}
+
+/// With destinations of every length: as many complete pieces as fit are written, and the rest is unchanged. The header byte is written if
+/// all pieces are; until then its place is unchanged.
 fn check_every_room(form: Form, samples: &Channels, segments: &[Vec<Vec<u8>>; 4], sides: (usize, usize)) {
-    let pieces = pieces(form, samples, segments);
-    let total: usize = pieces.iter().map(Vec::len).sum();
-    for room in 0..total + 2 {
-        let mut written = Vec::new();
-        for piece in &pieces {
+    let complete = complete(form, samples, segments);
+    for room in 0..complete.len() {
+        let mut written = vec![0xEE; usize::from(form.stream)];
+        for piece in pieces(form, samples, segments) {
             if written.len() + piece.len() > room {
                 break;
             }
             written.extend(piece);
         }
-        let answer = if room >= total { sent(total, form.rle) } else { Err(Refusal::BufferTooSmall) };
         written.resize(room, 0xEE);
-        assert_eq!(pack(form, samples, room, sides), (answer, written), "{form:?}, room {room}");
+        let refused = (Err(Refusal::BufferTooSmall), written);
+        assert_eq!(pack(form, samples, room, sides), refused, "{form:?}, room {room}");
+    }
+    for more in 0..3 {
+        let packed = (Ok(complete.len()), [&complete[..], &vec![0xEE; more]].concat());
+        assert_eq!(pack(form, samples, complete.len() + more, sides), packed, "{form:?}, {more} bytes more");
     }
 }
 
 #[test]
 fn one_pixel_with_every_room() {
     let segments = ["10 03", "10 02", "10 01", "10 04"].map(|segment| vec![hex(segment)]);
-    for form in FORMS {
+    for form in forms() {
         check_every_room(form, &one_pixel(), &segments, (1, 1));
     }
-    let raw = pack(Form { pixels: true, alpha: true, rle: false }, &one_pixel(), 5, (1, 1));
-    assert_eq!(raw, (sent(5, false), hex("04 03 02 01 00")));
-    let rle = pack(Form { pixels: true, alpha: true, rle: true }, &one_pixel(), 8, (1, 1));
-    assert_eq!(rle, (sent(8, true), hex("10 04 10 03 10 02 10 01")));
+}
+
+/// The same written out, for pixels.
+#[test]
+fn one_pixel_in_every_form() {
+    for (stream, alpha, rle, bytes) in [
+        (true, false, true, "30 10 03 10 02 10 01"),
+        (true, false, false, "20 03 02 01 00"),
+        (true, true, true, "30 10 04 10 03 10 02 10 01"),
+        (true, true, false, "20 04 03 02 01 00"),
+        (false, false, true, "10 03 10 02 10 01"),
+        (false, false, false, "03 02 01 00"),
+        (false, true, true, "10 04 10 03 10 02 10 01"),
+        (false, true, false, "04 03 02 01 00"),
+    ] {
+        let bytes = hex(bytes);
+        let form = Form { stream, pixels: true, alpha, rle };
+        assert_eq!(pack(form, &one_pixel(), bytes.len(), (1, 1)), (Ok(bytes.len()), bytes), "{form:?}");
+    }
 }
 
 #[test]
 fn worked_planes_with_every_room() {
     let (samples, segments) = worked();
-    for form in FORMS {
+    for form in forms() {
         check_every_room(form, &samples, &segments, (17, 2));
     }
 }
@@ -132,7 +180,7 @@ fn worked_planes_with_every_room() {
 #[test]
 fn sides_are_checked_first() {
     for (width, height, refusal) in REFUSED_SIDES {
-        for form in FORMS {
+        for form in forms() {
             for (channels, room) in
                 [(Channels::default(), 0), (one_pixel(), 0), (one_pixel(), 20), (Channels::default(), 20)]
             {
@@ -147,7 +195,7 @@ fn sides_are_checked_first() {
 #[test]
 fn short_sources_are_refused() {
     let (complete, _) = worked();
-    for form in FORMS {
+    for form in forms() {
         for short in 0..if form.alpha { 4 } else { 3 } {
             for length in [0, 1, 17, 33] {
                 let mut channels = complete.clone();
@@ -163,8 +211,10 @@ fn short_sources_are_refused() {
     let mut channels = complete;
     channels[0].pop();
     channels[1].push(2);
-    let refused = pack(Form { pixels: false, alpha: false, rle: false }, &channels, 400, (17, 2));
-    assert_eq!(refused, (Err(Refusal::NotEnoughBytes), vec![0xEE; 400]));
+    for stream in [false, true] {
+        let refused = pack(Form { stream, pixels: false, alpha: false, rle: false }, &channels, 400, (17, 2));
+        assert_eq!(refused, (Err(Refusal::NotEnoughBytes), vec![0xEE; 400]));
+    }
 }
 
 /// FORMAT 7.1: a trailing part of a pixel does not count.
@@ -172,11 +222,14 @@ fn short_sources_are_refused() {
 fn only_complete_pixels_count() {
     for length in 0..=12 {
         let pixels = &[1, 2, 3, 4, 5, 6, 7, 8, 9, 10, 11, 12][..length];
-        let mut dst = Guarded::filled(0xEE, 8);
-        let answer = BitmapStreamEncoder::new(2, 1).encode_bitmap::<BgrAChannels>(pixels, dst.slice(), false);
-        let expected = if length < 8 { Err(Refusal::NotEnoughBytes) } else { sent(7, false) };
-        assert_eq!(answer, expected, "{length} bytes");
-        assert_eq!(dst.after(), hex(if length < 8 { "EE*8" } else { "03 07 02 06 01 05 00 EE" }));
+        let mut encoder = BitmapStreamEncoder::new(2, 1);
+        let (mut stream, mut body) = (Guarded::filled(0xEE, 9), Guarded::filled(0xEE, 8));
+        let streamed = encoder.encode_bitmap::<BgrAChannels>(pixels, stream.slice(), false);
+        let packed = encoder.encode_bitmap_body::<BgrAChannels>(pixels, body.slice(), false);
+        let expected = |count| if length < 8 { Err(Refusal::NotEnoughBytes) } else { Ok(count) };
+        assert_eq!((streamed, packed.map(|packed| packed.bytes)), (expected(8), expected(7)), "{length} bytes");
+        assert_eq!(stream.after(), hex(if length < 8 { "EE*9" } else { "20 03 07 02 06 01 05 00 EE" }));
+        assert_eq!(body.after(), hex(if length < 8 { "EE*8" } else { "03 07 02 06 01 05 00 EE" }));
     }
 }
 
@@ -189,37 +242,37 @@ fn sources_may_be_longer() {
         let last = channel[33];
         channel.resize(34 + more, last);
     }
-    for form in FORMS {
-        let body = pieces(form, &samples, &segments).concat();
-        assert_eq!(pack(form, &longer, body.len(), (17, 2)), (sent(body.len(), form.rle), body), "{form:?}");
+    for form in forms() {
+        let complete = complete(form, &samples, &segments);
+        assert_eq!(pack(form, &longer, complete.len(), (17, 2)), (Ok(complete.len()), complete), "{form:?}");
     }
 }
 
 #[test]
 fn an_encoder_may_be_used_again() {
     let mut encoder = BitmapStreamEncoder::new(1, 1);
-    let mut dst = [0; 6];
-    assert_eq!(encoder.encode_channels_stream(([1], [2], [3]), &mut dst[..5], true), Err(Refusal::BufferTooSmall));
-    assert_eq!(encoder.encode_channels_stream(([1], [2], [3]), &mut dst, true), sent(6, true));
-    assert_eq!(encoder.clone().encode_channels_stream(([1], [2], [3]), &mut dst, false), sent(4, false));
+    let mut dst = [0; 7];
+    assert_eq!(encoder.encode_channels_stream(([1], [2], [3]), &mut dst[..6], true), Err(Refusal::BufferTooSmall));
+    assert_eq!(encoder.encode_channels_stream(([1], [2], [3]), &mut dst, true), Ok(7));
+    assert_eq!(encoder.clone().encode_channels_stream(([1], [2], [3]), &mut dst, false), Ok(5));
 }
 
 /// A channel is anything that is a slice of bytes.
 #[test]
 fn channels_of_several_kinds() {
     let (r, g, b, a) = ([1, 2], vec![3, 4], vec![5, 6], [7, 8]);
-    let mut body = [0; 9];
+    let mut stream = [0; 10];
     let answer = BitmapStreamEncoder::new(2, 1).encode_channels_stream_alpha(
         (r.iter(), g.into_iter(), &b[..], a),
-        &mut body,
+        &mut stream,
         false,
     );
-    assert_eq!(answer, sent(9, false));
-    assert_eq!(body, [7, 8, 1, 2, 3, 4, 5, 6, 0]);
+    assert_eq!(answer, Ok(10));
+    assert_eq!(stream, [0x20, 7, 8, 1, 2, 3, 4, 5, 6, 0]);
 }
 
 /// A service's function over any layout, with IronRDP's bounds.
-fn with_layout<F: PixelFormat + PixelAlpha>(pixels: &[u8], dst: &mut [u8]) -> Result<Encoded, BitmapEncodeError> {
+fn with_layout<F: PixelFormat + PixelAlpha>(pixels: &[u8], dst: &mut [u8]) -> Result<usize, BitmapEncodeError> {
     let width = pixels.len() / F::STRIDE;
     BitmapStreamEncoder::new(width, 1).encode_bitmap_alpha::<F>(pixels, dst, false)
 }
@@ -230,46 +283,85 @@ fn the_constants_are_those_of_the_layout() {
     type F = BgrAChannels;
     assert_eq!((F::STRIDE, F::R, F::G, F::B, F::A), (4, 2, 1, 0, 3));
     let pixel = [10, 20, 30, 40];
-    let mut body = [0; 5];
-    assert_eq!(with_layout::<F>(&pixel, &mut body), sent(5, false));
-    assert_eq!(body, [pixel[F::A], pixel[F::R], pixel[F::G], pixel[F::B], 0]);
+    let mut stream = [0; 6];
+    assert_eq!(with_layout::<F>(&pixel, &mut stream), Ok(6));
+    assert_eq!(stream, [0x20, pixel[F::A], pixel[F::R], pixel[F::G], pixel[F::B], 0]);
 }
 
-/// Unpacking returns what was packed: three planes with the returned header record, four planes with its alpha flag set.
-#[test]
-fn round_trips() {
+/// Pictures of random samples, with their image.
+fn for_each_picture(mut check: impl FnMut(&Channels, &[u8], (usize, usize))) {
     let mut noise = Noise(0xA076_1D64_78BD_642F);
-    for case in 0..200 {
+    for _ in 0..200 {
         let (width, height) = (1 + noise.below(70) as usize, 1 + noise.below(6) as usize);
-        let area = width * height;
-        let channels: Channels = [(); 4].map(|_| noise.samples(area));
+        let channels: Channels = [(); 4].map(|_| noise.samples(width * height));
         let [r, g, b, _] = &channels;
-        let rgb: Vec<u8> = (0..area).flat_map(|i| [r[i], g[i], b[i]]).collect();
-        for form in FORMS {
+        let rgb: Vec<u8> = (0..width * height).flat_map(|i| [r[i], g[i], b[i]]).collect();
+        check(&channels, &rgb, (width, height));
+    }
+}
+
+/// Unpacking returns what was packed: a stream as it is or, of four planes, with bit 5 of its first byte cleared.
+#[test]
+fn streams_there_and_back() {
+    for_each_picture(|channels, rgb, (width, height)| {
+        for form in forms().filter(|form| form.stream) {
             // A plane has at most two bytes a sample.
-            let (answer, body) = pack(form, &channels, 8 * area, (width, height));
-            let Encoded { bytes, mut header } = answer.unwrap();
-            header.use_alpha = form.alpha;
-            let mut work = Guarded::filled(0xEE, 3 * area);
-            let mut image = Guarded::filled(0xEE, 3 * area);
-            let answer = rdp6::decode(header, &body[..bytes], work.slice(), image.slice(), width, height);
-            assert_eq!(answer, Ok(3 * area), "case {case}, {form:?}");
-            assert_eq!(image.after(), rgb, "case {case}, {form:?}");
+            let (answer, mut stream) = pack(form, channels, 8 * width * height + 1, (width, height));
+            stream.truncate(answer.unwrap());
+            if form.alpha {
+                stream[0] &= !0x20;
+            }
+            let mut work = Guarded::filled(0xEE, stream_work_size(&stream, width, height));
+            let mut image = Guarded::filled(0xEE, rgb.len());
+            let answer = stream_decode(&stream, work.slice(), image.slice(), width, height);
+            assert_eq!(answer, Ok(rgb.len()), "{width} x {height}, {form:?}");
+            assert_eq!(image.after(), rgb, "{width} x {height}, {form:?}");
             work.after();
         }
-    }
+    });
+}
+
+/// The same for a body: three planes with the returned header record, four planes with its alpha flag set.
+#[test]
+fn bodies_there_and_back() {
+    for_each_picture(|channels, rgb, (width, height)| {
+        for form in forms().filter(|form| !form.stream) {
+            let (answer, body) = pack(form, channels, 8 * width * height + 1, (width, height));
+            let mut work = Guarded::filled(0xEE, rgb.len());
+            let mut image = Guarded::filled(0xEE, rgb.len());
+            let header = argb(form.rle, form.alpha);
+            let answer = decode(header, &body[..answer.unwrap()], work.slice(), image.slice(), width, height);
+            assert_eq!(answer, Ok(rgb.len()), "{width} x {height}, {form:?}");
+            assert_eq!(image.after(), rgb, "{width} x {height}, {form:?}");
+            work.after();
+        }
+    });
+}
+
+/// A stream has one byte more than its body, and behind the first byte the bytes of the body.
+#[test]
+fn streams_are_a_header_byte_and_the_body() {
+    for_each_picture(|channels, rgb, sides| {
+        for form in forms().filter(|form| form.stream) {
+            let room = 3 * rgb.len();
+            let (body_count, body) = pack(Form { stream: false, ..form }, channels, room, sides);
+            let (count, stream) = pack(form, channels, room + 1, sides);
+            assert_eq!(count, body_count.map(|count| count + 1), "{form:?}");
+            assert_eq!(stream, [header_byte(form), body].concat(), "{form:?}");
+        }
+    });
 }
 
 #[test]
 fn threads_do_not_affect_each_other() {
     let (samples, segments) = worked();
     std::thread::scope(|scope| {
-        for form in FORMS {
+        for form in forms() {
             let (samples, segments) = (&samples, &segments);
             scope.spawn(move || {
-                let body = pieces(form, samples, segments).concat();
+                let complete = complete(form, samples, segments);
                 for _ in 0..200 {
-                    assert_eq!(pack(form, samples, body.len(), (17, 2)), (sent(body.len(), form.rle), body.clone()));
+                    assert_eq!(pack(form, samples, complete.len(), (17, 2)), (Ok(complete.len()), complete.clone()));
                 }
             });
         }

@@ -6,7 +6,7 @@ use std::error::Error;
 use rdp6::{Refusal, UnknownNumber};
 
 /// FORMAT 8.1.
-const TABLE: [(u8, Refusal); 12] = [
+const TABLE: [(u8, Refusal); 14] = [
     (1, Refusal::ZeroSize),
     (2, Refusal::TooLarge),
     (3, Refusal::LossLevel),
@@ -19,6 +19,8 @@ const TABLE: [(u8, Refusal); 12] = [
     (10, Refusal::ShortPlane),
     (11, Refusal::NotEnoughBytes),
     (12, Refusal::BufferTooSmall),
+    (13, Refusal::EmptyStream),
+    (14, Refusal::MissingPad),
 ];
 
 #[test]
@@ -37,7 +39,7 @@ fn every_number_of_the_table_and_no_other_is_a_refusal() {
         let expected = known.map(|(_, refusal)| *refusal).ok_or(UnknownNumber(number));
         assert_eq!(Refusal::try_from(number), expected);
     }
-    assert_eq!(UnknownNumber(13).to_string(), "unknown refusal number 13");
+    assert_eq!(UnknownNumber(15).to_string(), "unknown refusal number 15");
 }
 
 #[test]

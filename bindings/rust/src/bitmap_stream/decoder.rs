@@ -7,11 +7,83 @@ use crate::ffi;
 use crate::header::Definition;
 use crate::{BitmapStreamHeader, Refusal};
 
-/// IronRDP's name for its error. Here it is a refusal of [`decode`] or of [`BitmapStreamDecoder`]: 1 to 9.
+/// IronRDP's name for its error. Here it is a refusal of [`stream_decode`], [`decode`] or [`BitmapStreamDecoder`]: 1 to 9, 13 or 14.
 pub type BitmapDecodeError = Refusal;
 
-/// Unpacks a picture from its body, which is what follows the header byte, into the first 3 × `width` × `height` bytes of `image`: R, G and
-/// B of each pixel, row by row. Returns that number. Nothing is allocated, and no slice needs an alignment.
+/// Unpacks a picture from its stream into the first 3 × `width` × `height` bytes of `image`: R, G and B of each pixel, row by row. Returns that
+/// number. Nothing is allocated, and no slice needs an alignment.
+///
+/// The first row in the stream is the first row of the image ([row order](crate#row-order)). Alpha, if there is any, is not part of the image.
+///
+/// An RLE picture is unpacked into `work`, which then has its three colour planes one after the other; [`stream_work_size`] is its minimum
+/// length. A raw picture does not use `work`, which may be empty. Bytes of both slices behind what is written are unchanged. The pad byte of a
+/// raw stream, which is its last byte, and what follows the last plane have no effect.
+///
+/// ```
+/// // Loss level 1, RLE, with alpha; then a plane of one sample each: alpha, Y, Co and Cg.
+/// let stream = [0x11, 0x10, 0xFF, 0x10, 100, 0x10, 10, 0x10, 20];
+/// let mut work = vec![0; rdp6::stream_work_size(&stream, 1, 1)];
+/// let mut image = vec![0; rdp6::image_size(1, 1)];
+/// assert_eq!(rdp6::stream_decode(&stream, &mut work, &mut image, 1, 1), Ok(3));
+/// assert_eq!(image, [90, 120, 70]);
+/// ```
+///
+/// # Errors
+///
+/// In the order in which they are checked. None of them changes the image:
+///
+/// | Number | Condition | `work` |
+/// |---|---|---|
+/// | 13 | `stream` is empty | unchanged |
+/// | 14 | `stream` is raw and has one byte: there is no pad byte | unchanged |
+/// | 1 | `width` or `height` is 0 | unchanged |
+/// | 2 | `width` or `height` is over 8,192 | unchanged |
+/// | 4 | the body, that is `stream` without the header byte and the pad byte, is shorter than its minimum size | unchanged |
+/// | 5 | `work` is shorter than [`stream_work_size`] (RLE only) | unchanged |
+/// | 6 | `image` is shorter than [`image_size`] | unchanged |
+/// | 7, 8, 9 | as [`decode`] has them (RLE only) | as there |
+///
+/// Refusal 3 never occurs: a header byte has no loss level but 0, which is ARGB, and 1 to 7. [`decode`] says what the minimum size of a body is.
+pub fn stream_decode(
+    stream: &[u8],
+    work: &mut [u8],
+    image: &mut [u8],
+    width: usize,
+    height: usize,
+) -> Result<usize, BitmapDecodeError> {
+    // SAFETY: the three slices are valid for the call with these lengths, and nothing keeps them; `work` and `image`, each a `&mut`,
+    // overlap no other.
+    let answer = unsafe {
+        ffi::rdp6_stream_decode(
+            stream.as_ptr(),
+            stream.len(),
+            work.as_mut_ptr(),
+            work.len(),
+            image.as_mut_ptr(),
+            image.len(),
+            width,
+            height,
+        )
+    };
+    to_result(answer)
+}
+
+/// The minimum length of the work area of [`stream_decode`]: the size of the three colour planes, or 0 if the picture is raw. Only the first
+/// byte of `stream` is read. It is 0 for an empty stream and for sides that are refused.
+///
+/// ```
+/// assert_eq!(rdp6::stream_work_size(&[0x30], 3, 3), 3 * 9);
+/// assert_eq!(rdp6::stream_work_size(&[0x39], 3, 3), 9 + 2 * 4); // loss level 1, subsampled
+/// assert_eq!(rdp6::stream_work_size(&[0x20], 3, 3), 0); // raw
+/// ```
+pub fn stream_work_size(stream: &[u8], width: usize, height: usize) -> usize {
+    // SAFETY: the slice is valid for the call with this length, and nothing keeps it.
+    unsafe { ffi::rdp6_stream_work_size(stream.as_ptr(), stream.len(), width, height) }
+}
+
+/// Does what [`stream_decode`] does for a caller that reads the header byte itself: unpacks a picture from its body, which is what follows
+/// the header byte, into the first 3 × `width` × `height` bytes of `image`, R, G and B of each pixel, row by row. Returns that number.
+/// Nothing is allocated, and no slice needs an alignment.
 ///
 /// The first row in the body is the first row of the image ([row order](crate#row-order)). A body of four planes is unpacked with `use_alpha`
 /// as true; alpha is not part of the image.
@@ -111,7 +183,8 @@ pub fn work_size(header: BitmapStreamHeader, width: usize, height: usize) -> usi
     }
 }
 
-/// The minimum length of the image of [`decode`], 3 × `width` × `height`. It is 0 for sides that are refused, and at most 201,326,592.
+/// The minimum length of the image of [`stream_decode`] and [`decode`], 3 × `width` × `height`. It is 0 for sides that are refused, and at most
+/// 201,326,592.
 ///
 /// ```
 /// assert_eq!(rdp6::image_size(640, 480), 921_600);
@@ -124,7 +197,7 @@ pub fn image_size(width: usize, height: usize) -> usize {
 
 /// A decoder that keeps its work area from picture to picture, so that it is allocated once for the largest.
 ///
-/// [`decode`] does the same with slices of the caller and without allocation.
+/// [`stream_decode`] and [`decode`] do the same with slices of the caller and without allocation.
 #[derive(Default)]
 pub struct BitmapStreamDecoder {
     planes_buffer: Vec<u8>,
@@ -146,11 +219,42 @@ impl fmt::Debug for BitmapStreamDecoder {
 }
 
 impl BitmapStreamDecoder {
-    /// Unpacks a picture from its body and appends R, G and B of each pixel, row by row, to `dst`. The first row in the body is the first row
-    /// of the image ([row order](crate#row-order)).
+    /// Unpacks a picture from its stream and appends R, G and B of each pixel, row by row, to `dst`. The first row in the stream is the first
+    /// row of the image ([row order](crate#row-order)). This is IronRDP's method, with its parameters.
     ///
-    /// IronRDP's `decode_bitmap_stream_to_rgb24` reads the header byte first. Here the caller does, and passes what it says as `header` and
-    /// the bytes behind it as `body`, with or without the pad byte at the end of a raw stream.
+    /// ```
+    /// let stream = [0x20, 1, 2, 3, 4, 5, 6, 0]; // raw R, G and B of two pixels, and the pad byte
+    /// let mut decoder = rdp6::BitmapStreamDecoder::default();
+    /// let mut image = Vec::new();
+    /// decoder.decode_bitmap_stream_to_rgb24(&stream, &mut image, 2, 1)?;
+    /// assert_eq!(image, [1, 3, 5, 2, 4, 6]);
+    /// # Ok::<(), rdp6::Refusal>(())
+    /// ```
+    ///
+    /// # Errors
+    ///
+    /// 13, 14, 1, 2, 4, 7, 8 and 9, as [`stream_decode`] has them and in its order; never 5 or 6, since the work area and the image get their
+    /// minimum lengths. No refusal changes `dst`, and nothing is allocated before the first five are checked.
+    ///
+    /// # Aborts
+    ///
+    /// If memory runs out, as every `Vec` does. The image has at most 201,326,592 bytes, and the work area too.
+    pub fn decode_bitmap_stream_to_rgb24(
+        &mut self,
+        bitmap_stream: &[u8],
+        dst: &mut Vec<u8>,
+        image_width: usize,
+        image_height: usize,
+    ) -> Result<(), BitmapDecodeError> {
+        let sizes = Sizes {
+            work: stream_work_size(bitmap_stream, image_width, image_height),
+            image: image_size(image_width, image_height),
+        };
+        self.append(dst, sizes, |work, image| stream_decode(bitmap_stream, work, image, image_width, image_height))
+    }
+
+    /// Does the same for a caller that reads the header byte itself, and passes what it says as `header` and the bytes behind it as `body`, with
+    /// or without the pad byte at the end of a raw stream.
     ///
     /// ```
     /// use rdp6::{BitmapStreamDecoder, BitmapStreamHeader, ColorPlaneDefinition};
@@ -166,12 +270,12 @@ impl BitmapStreamDecoder {
     ///
     /// # Errors
     ///
-    /// 1, 2, 3, 4, 7, 8 and 9, as [`decode`] has them and in its order; never 5 or 6, since the work area and the image get their minimum
-    /// lengths. No refusal changes `dst`, and nothing is allocated before the first four are checked.
+    /// 1, 2, 3, 4, 7, 8 and 9, as [`decode`] has them and in its order. No refusal changes `dst`, and nothing is allocated before the first
+    /// four are checked.
     ///
     /// # Aborts
     ///
-    /// If memory runs out, as every `Vec` does. The image has at most 201,326,592 bytes, and the work area too.
+    /// As [`decode_bitmap_stream_to_rgb24`](BitmapStreamDecoder::decode_bitmap_stream_to_rgb24) does.
     pub fn decode_body_to_rgb24(
         &mut self,
         header: BitmapStreamHeader,
@@ -180,11 +284,27 @@ impl BitmapStreamDecoder {
         image_width: usize,
         image_height: usize,
     ) -> Result<(), BitmapDecodeError> {
-        check_arguments(header, body, image_width, image_height)?;
-        let work = self.work_area(work_size(header, image_width, image_height));
+        let sizes =
+            Sizes { work: work_size(header, image_width, image_height), image: image_size(image_width, image_height) };
+        self.append(dst, sizes, |work, image| decode(header, body, work, image, image_width, image_height))
+    }
+
+    /// Appends the image that `decode` writes, given a work area and an image of these sizes. If it refuses, `dst` is unchanged.
+    fn append(
+        &mut self,
+        dst: &mut Vec<u8>,
+        sizes: Sizes,
+        decode: impl Fn(&mut [u8], &mut [u8]) -> Result<usize, Refusal>,
+    ) -> Result<(), Refusal> {
+        // The refusals before 5, before anything is allocated: with an empty work area and an empty image the next one is 5 or 6.
+        match decode(&mut [], &mut []) {
+            Err(Refusal::ShortWork | Refusal::ShortImage) => (),
+            answer => return answer.map(|_| ()),
+        }
+        let work = self.work_area(sizes.work);
         let start = dst.len();
-        dst.resize(start + image_size(image_width, image_height), 0);
-        let answer = decode(header, body, work, &mut dst[start..], image_width, image_height);
+        dst.resize(start + sizes.image, 0);
+        let answer = decode(work, &mut dst[start..]);
         if answer.is_err() {
             dst.truncate(start);
         }
@@ -200,12 +320,10 @@ impl BitmapStreamDecoder {
     }
 }
 
-/// Refusals 1 to 4, before anything is allocated. With an empty work area and an empty image the library's next refusal is 5 or 6.
-fn check_arguments(header: BitmapStreamHeader, body: &[u8], width: usize, height: usize) -> Result<(), Refusal> {
-    match decode(header, body, &mut [], &mut [], width, height) {
-        Err(Refusal::ShortWork | Refusal::ShortImage) => Ok(()),
-        answer => answer.map(|_| ()),
-    }
+/// The minimum lengths of the work area and the image of a picture.
+struct Sizes {
+    work: usize,
+    image: usize,
 }
 
 #[cfg(test)]

@@ -1,4 +1,4 @@
-//! Shared by the tests: bytes written in hexadecimal, slices with guard bytes, headers, the order of refusals, random samples.
+//! Shared by the tests: bytes written in hexadecimal, slices with guard bytes, headers, streams, the order of refusals, random samples.
 #![allow(dead_code)] // no test uses all of it
 
 use rdp6::{BitmapStreamHeader, ColorPlaneDefinition, Refusal};
@@ -62,6 +62,27 @@ pub fn argb(rle: bool, alpha: bool) -> BitmapStreamHeader {
 pub fn aycocg(rle: bool, alpha: bool, color_loss_level: u8, use_chroma_subsampling: bool) -> BitmapStreamHeader {
     let color_plane_definition = ColorPlaneDefinition::AYCoCg { color_loss_level, use_chroma_subsampling };
     BitmapStreamHeader { enable_rle_compression: rle, use_alpha: alpha, color_plane_definition }
+}
+
+/// The header record of a header byte, FORMAT 1.2.
+pub fn header_of(byte: u8) -> BitmapStreamHeader {
+    let (rle, alpha, level) = (byte & 0x10 != 0, byte & 0x20 == 0, byte & 0x07);
+    if level == 0 {
+        argb(rle, alpha)
+    } else {
+        aycocg(rle, alpha, level, byte & 0x08 != 0)
+    }
+}
+
+/// The header record and the body of a stream: in a raw stream the last byte is the pad byte.
+pub fn split(stream: &[u8]) -> Result<(BitmapStreamHeader, &[u8]), Refusal> {
+    let (first, rest) = stream.split_first().ok_or(Refusal::EmptyStream)?;
+    let header = header_of(*first);
+    if header.enable_rle_compression {
+        return Ok((header, rest));
+    }
+    let (_pad, body) = rest.split_last().ok_or(Refusal::MissingPad)?;
+    Ok((header, body))
 }
 
 /// Sides with their refusal. FORMAT 8.2: refusal 1 comes before refusal 2, and both before all others.
