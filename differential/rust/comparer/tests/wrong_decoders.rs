@@ -7,14 +7,14 @@ use comparer::picture::case::{ARGB, AYCOCG};
 use comparer::picture::fixed;
 use comparer::picture::random::Random;
 use comparer::picture::Form;
-use comparer::Library;
+use comparer::{Extent, Library};
 use support::decoder::{min_plane, pictures, unpacked, Call, Decoder, Right};
 use support::{Search, RIGHT_LIBRARY};
 
 const SEARCH: Search = Search {
     fixed: fixed::run,
     random: |seed| {
-        let mut random = Random::new(seed);
+        let mut random = Random::new(seed, Extent::Body);
         Box::new(move |comparer| random.round(comparer))
     },
     rounds: 500,

@@ -61,13 +61,7 @@ pub fn decode(
 }
 
 /// `BitmapStreamDecoder::decode_bitmap_stream_to_rgb24`. The two buffers are as with `decode`.
-pub fn stream_decode(
-    stream: &[u8],
-    work: &mut Vec<u8>,
-    image: &mut Vec<u8>,
-    width: usize,
-    height: usize,
-) -> Answer {
+pub fn stream_decode(stream: &[u8], work: &mut Vec<u8>, image: &mut Vec<u8>, width: usize, height: usize) -> Answer {
     let earlier = image.len();
     let mut decoder = BitmapStreamDecoder::with_planes(std::mem::take(work));
     let outcome = panics::caught(|| decoder.decode_bitmap_stream_to_rgb24(stream, image, width, height));

@@ -6,11 +6,12 @@ pub mod decoder;
 pub mod encoder;
 pub mod packer;
 pub mod stored;
+pub mod stream;
 
 use comparer::report::report;
 use comparer::shrink::{shrink_within, LIMIT};
 use comparer::{encoding, packing, unpacking};
-use comparer::{Case, Comparer, Difference, Function, Library, Outcome};
+use comparer::{Case, Comparer, Difference, Extent, Function, Library, Outcome};
 
 /// The buffers of one call. Indices are not checked: a planted mistake may be out of bounds, as it would be in a library.
 pub struct Slices {
@@ -109,6 +110,7 @@ pub const RIGHT_LIBRARY: Library = Library {
     pack: exported::<RightPack>,
     pictures: decoder::pictures::<decoder::Right>(),
     encoders: encoder::encoders::<encoder::Right>(),
+    streams: stream::streams::<stream::RightDecoder, stream::RightEncoder>(),
 };
 
 /// The difference from the sample above, of a delta code.
@@ -179,17 +181,15 @@ pub const fn packing_search(fixed: fn(&mut Comparer) -> Outcome) -> Search {
     }
 }
 
-/// The same for packing pictures.
+/// The same for packing pictures into bodies.
 pub const fn encoding_search(fixed: fn(&mut Comparer) -> Outcome) -> Search {
-    Search {
-        fixed,
-        random: |seed| {
-            let mut random = encoding::random::Random::new(seed);
-            Box::new(move |comparer| random.round(comparer))
-        },
-        rounds: 300,
-        alone: 5_000,
-    }
+    Search { fixed, random: |seed| encoding_rounds(seed, Extent::Body), rounds: 300, alone: 5_000 }
+}
+
+/// Rounds of random pictures to pack.
+pub fn encoding_rounds(seed: u64, extent: Extent) -> Round {
+    let mut random = encoding::random::Random::new(seed, extent);
+    Box::new(move |comparer| random.round(comparer))
 }
 
 /// The unpacker beside a right packer.
