@@ -28,7 +28,8 @@ pub struct Library {
 }
 
 impl Library {
-    pub(crate) fn encoders(&self, extent: Extent) -> Encoders {
+    /// The functions that pack pictures into bodies or into streams.
+    pub fn encoders(&self, extent: Extent) -> Encoders {
         match extent {
             Extent::Body => self.encoders,
             Extent::Stream => self.streams.encoders,

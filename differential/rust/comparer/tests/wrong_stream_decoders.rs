@@ -63,25 +63,25 @@ fn first(refusals: [i64; 3]) -> i64 {
 
 // The header byte.
 
-wrong!(the_alpha_bit_the_wrong_way_round, "?", {
+wrong!(the_alpha_bit_the_wrong_way_round, "su 1 1 2000*4 - -", {
     fn alpha(byte: u8) -> bool {
         byte & 0x20 != 0
     }
 });
 
-wrong!(never_alpha, "?", {
+wrong!(never_alpha, "su 1 1 00*5 - -", {
     fn alpha(_byte: u8) -> bool {
         false
     }
 });
 
-wrong!(the_rle_bit_the_wrong_way_round, "?", {
+wrong!(the_rle_bit_the_wrong_way_round, "su 0 0 20 - -", {
     fn rle(byte: u8) -> bool {
         byte & 0x10 == 0
     }
 });
 
-wrong!(the_bits_of_rle_and_alpha_exchanged, "?", {
+wrong!(the_bits_of_rle_and_alpha_exchanged, "su 0 0 20 - -", {
     fn rle(byte: u8) -> bool {
         byte & 0x20 != 0
     }
@@ -91,19 +91,19 @@ wrong!(the_bits_of_rle_and_alpha_exchanged, "?", {
     }
 });
 
-wrong!(a_level_of_two_bits, "?", {
+wrong!(a_level_of_two_bits, "ss 1 2 1C", {
     fn level(byte: u8) -> u32 {
         u32::from(byte & 0x03)
     }
 });
 
-wrong!(a_level_of_four_bits, "?", {
+wrong!(a_level_of_four_bits, "su 1 1 2800 - -", {
     fn level(byte: u8) -> u32 {
         u32::from(byte & 0x0F)
     }
 });
 
-wrong!(the_level_one_too_high, "?", {
+wrong!(the_level_one_too_high, "su 1 1 2100000100 - EEEEEE", {
     fn level(byte: u8) -> u32 {
         match byte & 0x07 {
             level @ 1..=6 => u32::from(level) + 1,
@@ -112,13 +112,13 @@ wrong!(the_level_one_too_high, "?", {
     }
 });
 
-wrong!(the_top_bits_taken_as_level, "?", {
+wrong!(the_top_bits_taken_as_level, "su 1 1 6000 - -", {
     fn level(byte: u8) -> u32 {
         u32::from(byte & 0x07 | (byte & 0xC0) >> 3)
     }
 });
 
-wrong!(the_top_bits_refused, "?", {
+wrong!(the_top_bits_refused, "su 0 0 6000 - -", {
     fn refused(call: &StreamCall) -> i64 {
         match Right::refused(call) {
             0 if Self::header(call) & 0xC0 != 0 => 3,
@@ -127,19 +127,19 @@ wrong!(the_top_bits_refused, "?", {
     }
 });
 
-wrong!(the_highest_bit_taken_as_alpha, "?", {
+wrong!(the_highest_bit_taken_as_alpha, "su 1 1 A000*4 - -", {
     fn alpha(byte: u8) -> bool {
         byte & 0xA0 != 0x20
     }
 });
 
-wrong!(subsampling_forgotten, "?", {
+wrong!(subsampling_forgotten, "su 2 1 39000000 EE*4 -", {
     fn subsampled(_byte: u8) -> bool {
         false
     }
 });
 
-wrong!(bit_3_taken_under_level_0, "?", {
+wrong!(bit_3_taken_under_level_0, "su 2 1 2800*5 - -", {
     fn decode_body(call: &mut decoder::Call) -> i64 {
         struct Subsampling;
         impl Decoder for Subsampling {
@@ -151,7 +151,7 @@ wrong!(bit_3_taken_under_level_0, "?", {
     }
 });
 
-wrong!(bit_3_refused_under_level_0, "?", {
+wrong!(bit_3_refused_under_level_0, "su 0 0 2800 - -", {
     fn refused(call: &StreamCall) -> i64 {
         let byte = Self::header(call);
         match Right::refused(call) {
@@ -169,13 +169,13 @@ wrong!(bit_3_refused_under_level_0, "?", {
     }
 });
 
-wrong!(level_0_taken_as_aycocg, "?", {
+wrong!(level_0_taken_as_aycocg, "su 1 1 2000 - -", {
     fn form(byte: u8) -> Form {
         Form { definition: 1, ..Right::form(byte) }
     }
 });
 
-wrong!(the_header_byte_at_the_end, "?", {
+wrong!(the_header_byte_at_the_end, "su 1 1 2000*4 - -", {
     fn header(call: &StreamCall) -> u8 {
         call.stream.read(call.stream.len - 1)
     }
@@ -183,19 +183,19 @@ wrong!(the_header_byte_at_the_end, "?", {
 
 // The body.
 
-wrong!(the_pad_byte_taken_as_body, "?", {
+wrong!(the_pad_byte_taken_as_body, "su 1 1 20000000 - -", {
     fn body_len(len: usize, _form: Form) -> usize {
         len - 1
     }
 });
 
-wrong!(the_last_byte_cut_off_an_rle_body, "?", {
+wrong!(the_last_byte_cut_off_an_rle_body, "su 1 1 30000000 - -", {
     fn body_len(len: usize, _form: Form) -> usize {
         len.saturating_sub(2)
     }
 });
 
-wrong!(the_pad_byte_cut_off_an_rle_body_if_it_is_0, "?", {
+wrong!(the_pad_byte_cut_off_an_rle_body_if_it_is_0, "su 1 1 1000*4 - -", {
     fn decode(call: &mut StreamCall) -> i64 {
         let len = call.stream.len;
         if len > 1 && Right::rle(call.stream.read(0)) && call.stream.read(len - 1) == 0 {
@@ -205,13 +205,13 @@ wrong!(the_pad_byte_cut_off_an_rle_body_if_it_is_0, "?", {
     }
 });
 
-wrong!(the_body_with_the_header_byte, "?", {
+wrong!(the_body_with_the_header_byte, "su 1 1 2000*4 - EEEEEE", {
     fn body_start() -> usize {
         0
     }
 });
 
-wrong!(a_byte_behind_the_stream_read, "?", {
+wrong!(a_byte_behind_the_stream_read, "su 1 1 2000*4 - EEEEEE", {
     fn decode(call: &mut StreamCall) -> i64 {
         let answer = Right::decode(call);
         if answer > 0 {
@@ -221,7 +221,7 @@ wrong!(a_byte_behind_the_stream_read, "?", {
     }
 });
 
-wrong!(the_first_byte_of_an_empty_stream_read, "?", {
+wrong!(the_first_byte_of_an_empty_stream_read, "su 0 0 - - -", {
     fn refused(call: &StreamCall) -> i64 {
         call.stream.read(0);
         Right::refused(call)
@@ -234,7 +234,7 @@ wrong!(the_first_byte_of_an_empty_stream_read, "?", {
 
 // Refusals 13 and 14.
 
-wrong!(refusal_13_after_1, "?", {
+wrong!(refusal_13_after_1, "su 0 0 - - -", {
     fn refused(call: &StreamCall) -> i64 {
         first([wrong_sides(call), Right::refused(call), 0])
     }
@@ -244,14 +244,14 @@ wrong!(refusal_13_after_1, "?", {
     }
 });
 
-wrong!(refusal_13_before_1_and_14_behind_it, "?", {
+wrong!(refusal_13_before_1_and_14_behind_it, "su 0 0 20 - -", {
     fn refused(call: &StreamCall) -> i64 {
         let empty = if call.stream.len == 0 { 13 } else { 0 };
         first([empty, wrong_sides(call), Right::refused(call)])
     }
 });
 
-wrong!(refusal_14_behind_2_alone, "?", {
+wrong!(refusal_14_behind_2_alone, "su 1 8193 20 - -", {
     fn refused(call: &StreamCall) -> i64 {
         let number = Right::refused(call);
         let large = if wrong_sides(call) == 2 && number == 14 { 2 } else { 0 };
@@ -259,7 +259,7 @@ wrong!(refusal_14_behind_2_alone, "?", {
     }
 });
 
-wrong!(refusal_14_behind_4, "?", {
+wrong!(refusal_14_behind_4, "su 0 0 20 - -", {
     fn lacks_pad(_len: usize, _form: Form) -> bool {
         false
     }
@@ -269,19 +269,19 @@ wrong!(refusal_14_behind_4, "?", {
     }
 });
 
-wrong!(refusal_14_of_an_rle_stream, "?", {
+wrong!(refusal_14_of_an_rle_stream, "su 0 0 30 - -", {
     fn lacks_pad(len: usize, _form: Form) -> bool {
         len == 1
     }
 });
 
-wrong!(refusal_14_of_two_bytes, "?", {
+wrong!(refusal_14_of_two_bytes, "su 0 0 2000 - -", {
     fn lacks_pad(len: usize, form: Form) -> bool {
         !form.rle && len <= 2
     }
 });
 
-wrong!(refusal_13_of_a_raw_stream_of_one_byte, "?", {
+wrong!(refusal_13_of_a_raw_stream_of_one_byte, "su 0 0 20 - -", {
     fn refused(call: &StreamCall) -> i64 {
         match Right::refused(call) {
             14 => 13,
@@ -290,7 +290,7 @@ wrong!(refusal_13_of_a_raw_stream_of_one_byte, "?", {
     }
 });
 
-wrong!(an_empty_stream_refused_by_14, "?", {
+wrong!(an_empty_stream_refused_by_14, "su 0 0 - - -", {
     fn refused(call: &StreamCall) -> i64 {
         match Right::refused(call) {
             13 => 14,
@@ -299,7 +299,7 @@ wrong!(an_empty_stream_refused_by_14, "?", {
     }
 });
 
-wrong!(an_empty_stream_refused_by_4, "?", {
+wrong!(an_empty_stream_refused_by_4, "su 0 0 - - -", {
     fn refused(call: &StreamCall) -> i64 {
         match Right::refused(call) {
             13 => first([wrong_sides(call), 4, 0]),
@@ -308,7 +308,7 @@ wrong!(an_empty_stream_refused_by_4, "?", {
     }
 });
 
-wrong!(an_empty_stream_clears_the_image, "?", {
+wrong!(an_empty_stream_clears_the_image, "su 0 0 - - EE", {
     fn decode(call: &mut StreamCall) -> i64 {
         if call.stream.len == 0 {
             call.image.bytes_mut().fill(0);
@@ -317,7 +317,7 @@ wrong!(an_empty_stream_clears_the_image, "?", {
     }
 });
 
-wrong!(a_missing_pad_byte_clears_the_work_area, "?", {
+wrong!(a_missing_pad_byte_clears_the_work_area, "su 0 0 20 EE -", {
     fn decode(call: &mut StreamCall) -> i64 {
         let answer = Right::decode(call);
         if answer == -14 {
@@ -327,7 +327,7 @@ wrong!(a_missing_pad_byte_clears_the_work_area, "?", {
     }
 });
 
-wrong!(refusals_5_and_6_exchanged, "?", {
+wrong!(refusals_5_and_6_exchanged, "su 1 1 30000000 - -", {
     fn decode_body(call: &mut decoder::Call) -> i64 {
         struct Exchanged;
         impl Decoder for Exchanged {
@@ -339,7 +339,7 @@ wrong!(refusals_5_and_6_exchanged, "?", {
     }
 });
 
-wrong!(a_work_area_needed_for_a_raw_stream, "?", {
+wrong!(a_work_area_needed_for_a_raw_stream, "su 1 1 2000*4 - -", {
     fn decode_body(call: &mut decoder::Call) -> i64 {
         struct Needed;
         impl Decoder for Needed {
@@ -351,7 +351,7 @@ wrong!(a_work_area_needed_for_a_raw_stream, "?", {
     }
 });
 
-wrong!(the_answer_with_the_header_byte, "?", {
+wrong!(the_answer_with_the_header_byte, "su 1 1 2000*4 - EEEEEE", {
     fn decode_body(call: &mut decoder::Call) -> i64 {
         match decoder::Right::decode(call) {
             count @ 1.. => count + 1,
@@ -362,25 +362,25 @@ wrong!(the_answer_with_the_header_byte, "?", {
 
 // The size of the work area.
 
-wrong!(a_work_area_of_a_raw_stream, "?", {
+wrong!(a_work_area_of_a_raw_stream, "ss 1 1 00", {
     fn work_size_of(form: Form, width: usize, height: usize) -> usize {
         Right::work_size_of(Form { rle: true, ..form }, width, height)
     }
 });
 
-wrong!(a_work_area_that_ignores_subsampling, "?", {
+wrong!(a_work_area_that_ignores_subsampling, "ss 1 2 19", {
     fn work_size_of(form: Form, width: usize, height: usize) -> usize {
         Right::work_size_of(Form { subsampled: false, ..form }, width, height)
     }
 });
 
-wrong!(a_work_area_subsampled_under_level_0, "?", {
+wrong!(a_work_area_subsampled_under_level_0, "ss 1 2 18", {
     fn work_size_of(form: Form, width: usize, height: usize) -> usize {
         Right::work_size_of(Form { definition: 1, ..form }, width, height)
     }
 });
 
-wrong!(a_work_area_with_room_for_alpha, "?", {
+wrong!(a_work_area_with_room_for_alpha, "ss 1 1 10", {
     fn work_size_of(form: Form, width: usize, height: usize) -> usize {
         match Right::work_size_of(form, width, height) {
             0 => 0,
@@ -389,7 +389,7 @@ wrong!(a_work_area_with_room_for_alpha, "?", {
     }
 });
 
-wrong!(a_work_area_of_sides_over_8192, "?", {
+wrong!(a_work_area_of_sides_over_8192, "ss 1 8193 10", {
     fn work_size_of(form: Form, width: usize, height: usize) -> usize {
         match Right::work_size_of(form, width.min(8192), height.min(8192)) {
             0 => 0,
@@ -398,13 +398,13 @@ wrong!(a_work_area_of_sides_over_8192, "?", {
     }
 });
 
-wrong!(a_work_area_of_a_side_of_0, "?", {
+wrong!(a_work_area_of_a_side_of_0, "ss 0 0 10", {
     fn work_size_of(form: Form, width: usize, height: usize) -> usize {
         Right::work_size_of(form, width.max(1), height.max(1))
     }
 });
 
-wrong!(no_work_area_of_a_side_of_8192, "?", {
+wrong!(no_work_area_of_a_side_of_8192, "ss 1 8192 10", {
     fn work_size_of(form: Form, width: usize, height: usize) -> usize {
         if width == 8192 || height == 8192 {
             return 0;
@@ -413,7 +413,7 @@ wrong!(no_work_area_of_a_side_of_8192, "?", {
     }
 });
 
-wrong!(a_work_area_of_an_empty_stream, "?", {
+wrong!(a_work_area_of_an_empty_stream, "ss 1 1 -", {
     fn work_size(stream: Slice, width: usize, height: usize) -> usize {
         if stream.len == 0 {
             return Self::work_size_of(Form { definition: ARGB, ..Right::form(0x10) }, width, height);
@@ -422,7 +422,7 @@ wrong!(a_work_area_of_an_empty_stream, "?", {
     }
 });
 
-wrong!(a_work_area_by_the_last_byte, "?", {
+wrong!(a_work_area_by_the_last_byte, "ss 1 1 0010", {
     fn work_size(stream: Slice, width: usize, height: usize) -> usize {
         if stream.len == 0 {
             return 0;
@@ -431,7 +431,7 @@ wrong!(a_work_area_by_the_last_byte, "?", {
     }
 });
 
-wrong!(no_work_area_of_a_stream_without_a_body, "?", {
+wrong!(no_work_area_of_a_stream_without_a_body, "ss 1 1 10", {
     fn work_size(stream: Slice, width: usize, height: usize) -> usize {
         if stream.len < 2 {
             return 0;
@@ -440,7 +440,7 @@ wrong!(no_work_area_of_a_stream_without_a_body, "?", {
     }
 });
 
-wrong!(a_work_area_by_a_byte_behind_the_header, "?", {
+wrong!(a_work_area_by_a_byte_behind_the_header, "ss 0 0 00", {
     fn work_size(stream: Slice, width: usize, height: usize) -> usize {
         if stream.len > 0 {
             stream.read(1);

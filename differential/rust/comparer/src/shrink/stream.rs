@@ -29,17 +29,19 @@ fn shorter_streams(stream: &[u8]) -> impl Iterator<Item = Vec<u8>> + '_ {
     [0, 1, len.saturating_sub(1)].into_iter().filter(move |&end| end < len).map(|end| stream[..end].to_vec())
 }
 
-/// The ignored bits of the header byte 0; a lower pad byte.
+/// The ignored bits of the header byte 0, or one of them; a lower pad byte.
 fn plainer_streams(stream: &[u8]) -> impl Iterator<Item = Vec<u8>> + '_ {
-    let with = |at: usize, byte: u8| {
-        let mut plainer = stream.to_vec();
-        plainer[at] = byte;
-        plainer
-    };
-    let header = stream.first().filter(|&&byte| byte & SPARE != 0).map(|byte| with(0, byte & !SPARE));
+    let first = stream.first().copied().unwrap_or(0);
+    let headers = [SPARE, 0x80, 0x40].map(|bits| first & !bits).into_iter().filter(move |&byte| byte != first);
     let pad = split(stream).ok().filter(|parts| !parts.form.rle).map(|_| stream.len() - 1);
-    let pads = pad.into_iter().flat_map(move |at| lower(usize::from(stream[at])).map(move |pad| with(at, pad as u8)));
-    header.into_iter().chain(pads)
+    let pads = pad.into_iter().flat_map(move |at| lower(usize::from(stream[at])).map(move |pad| (at, pad as u8)));
+    headers.map(|byte| (0, byte)).chain(pads).map(|(at, byte)| with_byte(stream, at, byte))
+}
+
+fn with_byte(stream: &[u8], at: usize, byte: u8) -> Vec<u8> {
+    let mut changed = stream.to_vec();
+    changed[at] = byte;
+    changed
 }
 
 /// The case with another picture, if that has a header byte. A raw stream keeps its pad byte, and one that was RLE gets one. A stream that
@@ -55,11 +57,12 @@ fn with_picture(case: &OwnedStream, picture: OwnedPicture) -> Option<OwnedStream
     Some(OwnedStream { width, height, stream, work, image })
 }
 
-/// Lower sides, shorter streams, plainer ones.
+/// Lower sides, shorter streams, lower header bytes.
 pub fn smaller_size(case: &OwnedStreamSize) -> impl Iterator<Item = OwnedStreamSize> + '_ {
     let heights = lower_side(case.height).map(|height| OwnedStreamSize { height, ..case.clone() });
     let widths = lower_side(case.width).map(|width| OwnedStreamSize { width, ..case.clone() });
-    let streams = shorter_streams(&case.stream).chain(plainer_streams(&case.stream));
-    let plainer = streams.map(|stream| OwnedStreamSize { stream, ..case.clone() });
-    heights.chain(widths).chain(plainer)
+    let first = case.stream.first().copied().unwrap_or(0);
+    let lower = lower(usize::from(first)).map(|byte| with_byte(&case.stream, 0, byte as u8));
+    let streams = shorter_streams(&case.stream).chain(lower);
+    heights.chain(widths).chain(streams.map(|stream| OwnedStreamSize { stream, ..case.clone() }))
 }
