@@ -254,7 +254,8 @@ const ALIKE: [Place; 5] = [
     ("a subsampled picture needs less", &["iu 2 2 1 0 1:1 2001022002041003100A EE*6 EE*12"]),
 ];
 
-/// Streams, as far as they are another place than their bodies. Of unpacking only what the parser does is, which is ours on both sides.
+/// Where streams differ and their bodies do not, and some streams where both do the same. The parser of IronRDP's side is ours: unpacking
+/// differs as it does with bodies.
 const STREAMS: [Place; 5] = [
     (
         "packing is refused: IronRDP has already written the header byte",
@@ -269,7 +270,7 @@ const STREAMS: [Place; 5] = [
     ),
     ("a source is short, and the destination is empty", &["sc 1 1 1 - 02 03 none -", "sb 1 1 0 0 010203 -"]),
     (
-        "the stream lacks its header byte or its pad byte, and the sides are wrong",
+        "the stream lacks its header byte or its pad byte, which the parser refuses",
         &["su 1 1 - - EE*3", "su 0 1 - - EE*3", "su 1 1 20 - EE*3", "su 9000 1 20 - EE*3"],
     ),
     (

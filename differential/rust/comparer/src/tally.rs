@@ -166,7 +166,7 @@ const KINDS: [(Kind, Part, &str); 72] = [
     (Kind::StreamShort, Part::Pictures, "all streams of up to 2 bytes"),
     (Kind::StreamHeaders, Part::Pictures, "every header byte, streams around their limits"),
     (Kind::StreamRefused, Part::Pictures, "streams without header or pad byte, other refusals"),
-    (Kind::RandomStreams, Part::Pictures, "streams of noise, any header byte"),
+    (Kind::RandomStreams, Part::Pictures, "streams of noise, or with another header byte"),
     (Kind::SizesTable, Part::Sizes, "a table of sides"),
     (Kind::EncodingExamples, Part::Encoding, "small inputs with known answers"),
     (Kind::EncodingTable, Part::Encoding, "a table of sides, most of them refused"),

@@ -155,13 +155,14 @@ impl Comparer {
     /// What the library wrote must be unpacked to the samples that were packed: by IronRDP, and a stream by the library too.
     fn compare_round_trip(&mut self, case: Encoding<&[u8]>, count: usize) -> Outcome {
         self.tally.count_unpacked_again(case.extent);
-        let packed = self.packed.got[..count].to_vec();
-        let (wrong, by) = match round_trip::wrong(case, &packed) {
-            Some(wrong) => (wrong, "rdp6, unpacked by IronRDP"),
-            None => match self.wrong_by_library(case, &packed) {
-                Some(wrong) => (wrong, "rdp6, unpacked by itself"),
-                None => return Ok(()),
-            },
+        // The library's decoder is called with the memory of this comparer, so this is taken out of it.
+        let got = std::mem::take(&mut self.packed.got);
+        let by_ironrdp = round_trip::wrong(case, &got[..count]).map(|wrong| (wrong, "rdp6, unpacked by IronRDP"));
+        let found = by_ironrdp
+            .or_else(|| self.wrong_by_library(case, &got[..count]).map(|wrong| (wrong, "rdp6, unpacked by itself")));
+        self.packed.got = got;
+        let Some((wrong, by)) = found else {
+            return Ok(());
         };
         let reason = format!("the {} unpacked again", wrong.name);
         let [wanted_after, got_after] = [wrong.wanted, wrong.got].map(|bytes| After(vec![(wrong.name, bytes)]));

@@ -26,7 +26,7 @@ pub fn run_quick(comparer: &mut Comparer) -> Outcome {
     blocks::run(comparer)
 }
 
-/// The same pictures as streams, but for the longest rows.
+/// Streams, without what is about the reading of long rows: that a stream has the same body is seen with other pictures.
 pub fn run_streams(comparer: &mut Comparer) -> Outcome {
     run_of(comparer, Extent::Stream)
 }

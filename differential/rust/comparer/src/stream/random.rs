@@ -3,9 +3,10 @@
 use crate::check::{Comparer, Outcome};
 use crate::extent::Extent;
 use crate::picture;
-use crate::picture::planes::Befores;
+use crate::picture::planes::{Befores, Planes};
 use crate::planes;
 use crate::rng::Rng;
+use crate::stream::header::{form_of, joined};
 use crate::stream::StreamSize;
 use crate::tally::Kind;
 
@@ -26,7 +27,8 @@ impl Random {
     /// Some cases of one kind.
     pub fn round(&mut self, comparer: &mut Comparer) -> Outcome {
         match self.rng.below(8) {
-            0..=4 => self.pictures.round(comparer),
+            0..=3 => self.pictures.round(comparer),
+            4 => self.other_headers(comparer),
             5 | 6 => self.noise(comparer),
             _ => self.sizes(comparer),
         }
@@ -38,6 +40,22 @@ impl Random {
             0 => planes::sides_outside(&mut self.rng),
             _ => (self.rng.within(1, 30), self.rng.within(1, 4)),
         }
+    }
+
+    /// Complete streams of any form with one bit of the header byte changed, in buffers that are long enough for every form.
+    fn other_headers(&mut self, comparer: &mut Comparer) -> Outcome {
+        for _ in 0..20 {
+            let (width, height) = (self.rng.within(1, 12), self.rng.within(1, 4));
+            let byte = self.rng.byte();
+            let form = form_of(byte);
+            let body = Planes::random(&mut self.rng, form, width, height).body(form, width, height);
+            let mut stream = joined(form, byte, &body, self.rng.byte()).expect("every byte has a form");
+            stream[0] ^= 1 << self.rng.below(8);
+            let needed = 3 * width * height;
+            let room = (needed + self.rng.below(2), needed + self.rng.below(2));
+            self.befores.compare_stream(comparer, Kind::RandomStreams, (width, height), &stream, room)?;
+        }
+        Ok(())
     }
 
     /// Random bytes with any header byte, many of them few, for pictures so small that they sometimes are enough.
