@@ -37,8 +37,8 @@ impl Line {
     }
 }
 
-/// Every entry with every kind, those of streams with user-interface pages. A run goes through all the lines before the next one begins, so that what disturbs the machine for a
-/// while is seen in one run of many lines, not in many runs of one line.
+/// Every entry with every kind, those of streams with user-interface pages. A run goes through all the lines before the next one begins, so
+/// that what disturbs the machine for a while is seen in one run of many lines, not in many runs of one line.
 pub fn print_main_table(runs: usize) {
     let lines = entries().into_iter().flat_map(|entry| KINDS.map(|kind| Line::new(entry, kind)));
     let streams = stream_entries().into_iter().map(|entry| Line::new(entry, Kind::Page));

@@ -1,5 +1,6 @@
 //! The comparer must find every one of these mistakes in a picture decoder, and none in a right one.
 
+#[macro_use]
 mod support;
 
 use comparer::case::MAX_SIDE;
@@ -33,15 +34,8 @@ fn a_right_decoder_has_no_difference() {
 
 /// A decoder that does some steps differently, and the smallest input that shows it.
 macro_rules! wrong {
-    ($name:ident, $smallest:literal, { $($steps:tt)* }) => {
-        #[test]
-        fn $name() {
-            struct Wrong;
-            impl Decoder for Wrong {
-                $($steps)*
-            }
-            SEARCH.finds(with::<Wrong>(), $smallest);
-        }
+    ($($mistake:tt)*) => {
+        wrong_function!(Decoder, with, $($mistake)*);
     };
 }
 

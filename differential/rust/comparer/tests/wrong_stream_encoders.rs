@@ -1,5 +1,6 @@
 //! The comparer must find every one of these mistakes in functions that write streams, and none in right ones.
 
+#[macro_use]
 mod support;
 
 use comparer::encoding::fixed;
@@ -27,15 +28,8 @@ fn a_right_encoder_has_no_difference() {
 
 /// An encoder that does some steps differently, and the smallest input that shows it.
 macro_rules! wrong {
-    ($name:ident, $smallest:literal, { $($steps:tt)* }) => {
-        #[test]
-        fn $name() {
-            struct Wrong;
-            impl StreamEncoder for Wrong {
-                $($steps)*
-            }
-            SEARCH.finds(with::<Wrong>(), $smallest);
-        }
+    ($($mistake:tt)*) => {
+        wrong_function!(StreamEncoder, with, $($mistake)*);
     };
 }
 

@@ -10,8 +10,8 @@ use crate::stream::Stream;
 use crate::tally::{Kind, Reference};
 use original::{Answer, Definition, Encoded, Header};
 
-/// `rdp6_encode_channels` and `rdp6_stream_encode_channels` as C declares them: R, G, B, destination, RLE, width, height; bytes written, or minus the
-/// refusal's number.
+/// `rdp6_encode_channels` and `rdp6_stream_encode_channels` as C declares them: R, G, B, destination, RLE, width, height; bytes written,
+/// or minus the refusal's number.
 pub type EncodeChannels = unsafe extern "C" fn(
     *const u8,
     usize,

@@ -13,6 +13,22 @@ use comparer::shrink::{shrink_within, LIMIT};
 use comparer::{encoding, packing, unpacking};
 use comparer::{Case, Comparer, Difference, Extent, Function, Library, Outcome};
 
+/// A test of a function that does some steps of a trait differently. The file that uses it has `SEARCH` and the library of such a
+/// function, and the test names the smallest input that shows the mistake.
+#[allow(unused_macros)]
+macro_rules! wrong_function {
+    ($steps:ident, $library:ident, $name:ident, $smallest:literal, { $($other:tt)* }) => {
+        #[test]
+        fn $name() {
+            struct Wrong;
+            impl $steps for Wrong {
+                $($other)*
+            }
+            SEARCH.finds($library::<Wrong>(), $smallest);
+        }
+    };
+}
+
 /// The buffers of one call. Indices are not checked: a planted mistake may be out of bounds, as it would be in a library.
 pub struct Slices {
     pub src: *const u8,
