@@ -20,8 +20,8 @@ enum { STACK = 1 << 18, WIDTH = 300, HEIGHT = 3, SAMPLES = WIDTH * HEIGHT };
 
 /* What one process prepares is read by the others. */
 static struct buffers {
-    uint8_t samples[4 * SAMPLES], plane[2 * SAMPLES], picture[6 * SAMPLES], work[8 * SAMPLES], image[4 * SAMPLES];
-    size_t plane_len, picture_len;
+    uint8_t samples[4 * SAMPLES], plane[2 * SAMPLES], stream[6 * SAMPLES + 1], work[8 * SAMPLES + 1], image[4 * SAMPLES];
+    size_t plane_len, stream_len;
 } *b;
 
 static void *allocate(size_t size)
@@ -37,7 +37,7 @@ static void *allocate(size_t size)
 static void prepare(void)
 {
     b->plane_len = (size_t)rdp6_compress_8bpp_plane(b->samples, SAMPLES, b->plane, sizeof b->plane, WIDTH, HEIGHT);
-    b->picture_len = (size_t)rdp6_encode_bitmap(b->samples, sizeof b->samples, b->picture, sizeof b->picture, true, WIDTH, HEIGHT);
+    b->stream_len = (size_t)rdp6_stream_encode_bitmap(b->samples, sizeof b->samples, b->stream, sizeof b->stream, true, WIDTH, HEIGHT);
 }
 
 static void nothing(void)
@@ -51,8 +51,13 @@ static void unpack_plane(void)
 
 static void unpack_picture(void)
 {
-    rdp6_decode(true, false, RDP6_ARGB, 0, false, b->picture, b->picture_len, b->work, sizeof b->work, b->image, sizeof b->image, WIDTH,
-                HEIGHT);
+    rdp6_decode(true, false, RDP6_ARGB, 0, false, b->stream + 1, b->stream_len - 1, b->work, sizeof b->work, b->image, sizeof b->image,
+                WIDTH, HEIGHT);
+}
+
+static void unpack_stream(void)
+{
+    rdp6_stream_decode(b->stream, b->stream_len, b->work, sizeof b->work, b->image, sizeof b->image, WIDTH, HEIGHT);
 }
 
 static void pack_plane(void)
@@ -62,7 +67,13 @@ static void pack_plane(void)
 
 static void pack_picture(void)
 {
-    rdp6_encode_channels_stream_alpha(b->samples, SAMPLES, b->samples, SAMPLES, b->samples, SAMPLES, b->samples, SAMPLES, b->work,
+    rdp6_encode_channels_alpha(b->samples, SAMPLES, b->samples, SAMPLES, b->samples, SAMPLES, b->samples, SAMPLES, b->work, sizeof b->work,
+                               true, WIDTH, HEIGHT);
+}
+
+static void pack_stream(void)
+{
+    rdp6_stream_encode_channels_alpha(b->samples, SAMPLES, b->samples, SAMPLES, b->samples, SAMPLES, b->samples, SAMPLES, b->work,
                                       sizeof b->work, true, WIDTH, HEIGHT);
 }
 
@@ -91,8 +102,10 @@ static const struct measured {
 } functions[] = {
     {"rdp6_decompress_8bpp_plane", unpack_plane},
     {"rdp6_decode", unpack_picture},
+    {"rdp6_stream_decode", unpack_stream},
     {"rdp6_compress_8bpp_plane", pack_plane},
-    {"rdp6_encode_channels_stream_alpha", pack_picture},
+    {"rdp6_encode_channels_alpha", pack_picture},
+    {"rdp6_stream_encode_channels_alpha", pack_stream},
 };
 
 static const struct measured *next = functions;

@@ -25,22 +25,22 @@ fn file_of(folder: &Path, name: &str) -> PathBuf {
     })
 }
 
-/// The module tree. The decoder's file is included instead of named, so that a function of ours can stand beside it in its
-/// module and call what is private there.
+/// The module tree. The decoder's file is included instead of named, so that functions of ours can stand beside it in its
+/// module and use what is private there. The modules are public as in IronRDP's crate, for a program that is written for it.
 fn modules(rle: &Path, decoder: &Path, beside: &Path, encoder: &Path) -> String {
     // What nothing here calls would be warned of, in files that are not ours to change.
     format!(
         "#[allow(dead_code)]
-pub(crate) mod rdp6 {{
+pub mod rdp6 {{
     #[path = {rle:?}]
-    pub(crate) mod rle;
-    pub(crate) mod bitmap_stream {{
-        pub(crate) mod decoder {{
+    pub mod rle;
+    pub mod bitmap_stream {{
+        pub mod decoder {{
             include!({decoder:?});
             include!({beside:?});
         }}
         #[path = {encoder:?}]
-        pub(crate) mod encoder;
+        pub mod encoder;
     }}
 }}
 "

@@ -4,19 +4,24 @@ use comparer::encoding::given::pixels;
 use comparer::encoding::Sources;
 use comparer::picture::{Form, Planes};
 use comparer::planes::longest_packing;
+use comparer::stream::header::joined;
+use comparer::Extent;
+use original::{Answer, Encoded};
 use std::hint::black_box;
 
 #[derive(Clone, Copy)]
 pub enum Entry {
     UnpackPlane,
     PackPlane,
-    Unpack(Form),
+    Unpack(Form, Extent),
     /// From pixels of B, G, R and A, of which three planes are packed.
     PackPixels {
         rle: bool,
+        extent: Extent,
     },
     PackChannels {
         rle: bool,
+        extent: Extent,
     },
 }
 
@@ -24,16 +29,30 @@ const LEVEL: u32 = 3;
 
 /// The entries with their names, in the order of the tables.
 pub fn entries() -> [(&'static str, Entry); 9] {
+    let extent = Extent::Body;
     [
         ("plane unpack", Entry::UnpackPlane),
         ("plane pack", Entry::PackPlane),
-        ("picture unpack, RLE ARGB", Entry::Unpack(Form::argb(true, false))),
-        ("picture unpack, raw AYCoCg", Entry::Unpack(Form::aycocg(false, false, LEVEL, false))),
-        ("picture unpack, raw AYCoCg subsampled", Entry::Unpack(Form::aycocg(false, false, LEVEL, true))),
-        ("picture pack, RLE, pixels", Entry::PackPixels { rle: true }),
-        ("picture pack, raw, pixels", Entry::PackPixels { rle: false }),
-        ("picture pack, RLE, channels", Entry::PackChannels { rle: true }),
-        ("picture pack, raw, channels", Entry::PackChannels { rle: false }),
+        ("picture unpack, RLE ARGB", Entry::Unpack(Form::argb(true, false), extent)),
+        ("picture unpack, raw AYCoCg", Entry::Unpack(Form::aycocg(false, false, LEVEL, false), extent)),
+        ("picture unpack, raw AYCoCg subsampled", Entry::Unpack(Form::aycocg(false, false, LEVEL, true), extent)),
+        ("picture pack, RLE, pixels", Entry::PackPixels { rle: true, extent }),
+        ("picture pack, raw, pixels", Entry::PackPixels { rle: false, extent }),
+        ("picture pack, RLE, channels", Entry::PackChannels { rle: true, extent }),
+        ("picture pack, raw, channels", Entry::PackChannels { rle: false, extent }),
+    ]
+}
+
+/// The same of whole streams. What is done for a body is the most of it, so one kind of picture is enough.
+pub fn stream_entries() -> [(&'static str, Entry); 6] {
+    let extent = Extent::Stream;
+    [
+        ("stream unpack, RLE ARGB", Entry::Unpack(Form::argb(true, false), extent)),
+        ("stream unpack, raw ARGB", Entry::Unpack(Form::argb(false, false), extent)),
+        ("stream pack, RLE, pixels", Entry::PackPixels { rle: true, extent }),
+        ("stream pack, raw, pixels", Entry::PackPixels { rle: false, extent }),
+        ("stream pack, RLE, channels", Entry::PackChannels { rle: true, extent }),
+        ("stream pack, raw, channels", Entry::PackChannels { rle: false, extent }),
     ]
 }
 
@@ -54,7 +73,7 @@ impl Entry {
     /// The form that a picture of this entry has.
     pub fn form(self) -> Form {
         match self {
-            Entry::Unpack(form) => form,
+            Entry::Unpack(form, _) => form,
             _ => Form::argb(true, false),
         }
     }
@@ -65,7 +84,10 @@ impl Entry {
         match self {
             Entry::UnpackPlane => original::pack(first, side, side).expect("a complete plane with room"),
             Entry::PackPlane => first.clone(),
-            Entry::Unpack(form) => planes.body(form, side, side),
+            Entry::Unpack(form, Extent::Body) => planes.body(form, side, side),
+            Entry::Unpack(form, Extent::Stream) => {
+                joined(form, 0, &planes.body(form, side, side), 0).expect("a form that has a header byte")
+            }
             Entry::PackChannels { .. } => planes.colours.concat(),
             Entry::PackPixels { .. } => match pixels(planes) {
                 Sources::Pixels { pixels, .. } => pixels,
@@ -79,19 +101,22 @@ impl Entry {
         let room = match self {
             Entry::UnpackPlane => side * side,
             Entry::PackPlane => longest_packing(side, side),
-            Entry::Unpack(_) => 3 * side * side,
+            Entry::Unpack(..) => 3 * side * side,
             Entry::PackPixels { .. } | Entry::PackChannels { .. } => 2 + 3 * longest_packing(side, side),
         };
         let work = match self {
-            Entry::Unpack(form) => form.work_len(side, side),
+            Entry::Unpack(form, _) => form.work_len(side, side),
             _ => 0,
         };
         Buffers { work: vec![0; work], out: vec![0; room] }
     }
 
-    /// Where the output stands: behind the byte that IronRDP writes as a header where it packs a picture.
+    /// Where the output stands: behind the byte that IronRDP writes as a header where the library packs a body.
     pub fn start(self) -> usize {
-        usize::from(matches!(self, Entry::PackPixels { .. } | Entry::PackChannels { .. }))
+        match self {
+            Entry::PackPixels { extent, .. } | Entry::PackChannels { extent, .. } => 1 - extent.header_len(),
+            _ => 0,
+        }
     }
 
     /// How long the output is, by the answer.
@@ -108,12 +133,20 @@ impl Entry {
         let answer = match self {
             Entry::UnpackPlane => original::unpack(source, out, side, side),
             Entry::PackPlane => original::compress(source, out, side, side),
-            Entry::Unpack(form) => {
+            Entry::Unpack(form, Extent::Body) => {
                 out.clear();
                 original::decode(form.header().expect("a form that IronRDP has"), source, work, out, side, side)
             }
-            Entry::PackPixels { rle } => original::encode_bitmap(source, false, out, rle, side, side).answer,
-            Entry::PackChannels { rle } => original::encode_channels(thirds(source), None, out, rle, side, side).answer,
+            Entry::Unpack(_, Extent::Stream) => {
+                out.clear();
+                original::stream_decode(source, work, out, side, side)
+            }
+            Entry::PackPixels { rle, extent } => {
+                packed(extent, original::encode_bitmap(source, false, out, rle, side, side))
+            }
+            Entry::PackChannels { rle, extent } => {
+                packed(extent, original::encode_channels(thirds(source), None, out, rle, side, side))
+            }
         };
         answer.number().expect("an answer")
     }
@@ -125,12 +158,23 @@ impl Entry {
         match self {
             Entry::UnpackPlane => ours::unpack(source, out, side, side),
             Entry::PackPlane => ours::pack(source, out, side, side),
-            Entry::Unpack(Form { rle, alpha, definition, level, subsampled }) => {
+            Entry::Unpack(Form { rle, alpha, definition, level, subsampled }, Extent::Body) => {
                 let form = ours::Form { rle, alpha, definition, level, subsampled };
                 ours::decode(form, source, work, out, side, side)
             }
-            Entry::PackPixels { rle } => ours::encode_bitmap(source, false, out, rle, side, side),
-            Entry::PackChannels { rle } => ours::encode_channels(thirds(source), None, out, rle, side, side),
+            Entry::Unpack(_, Extent::Stream) => ours::stream_decode(source, work, out, side, side),
+            Entry::PackPixels { rle, extent } => ours::encode_bitmap(extent, source, false, out, rle, side, side),
+            Entry::PackChannels { rle, extent } => {
+                ours::encode_channels(extent, thirds(source), None, out, rle, side, side)
+            }
         }
+    }
+}
+
+/// IronRDP's answer for what the library packs.
+fn packed(extent: Extent, encoded: Encoded) -> Answer {
+    match extent {
+        Extent::Body => encoded.body_answer(),
+        Extent::Stream => encoded.answer,
     }
 }

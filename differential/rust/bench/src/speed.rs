@@ -1,6 +1,6 @@
 //! The table of every entry with every kind of picture, and the table of sizes.
 
-use crate::entry::{entries, Entry};
+use crate::entry::{entries, stream_entries, Entry};
 use crate::figures::{figure, grouped, print_head, print_row, Spread};
 use crate::measure::{Job, Times};
 use crate::pages::{Kind, DRAWN, KINDS};
@@ -37,11 +37,12 @@ impl Line {
     }
 }
 
-/// Every entry with every kind. A run goes through all the lines before the next one begins, so that what disturbs the machine for a
-/// while is seen in one run of many lines, not in many runs of one line.
+/// Every entry with every kind, those of streams with user-interface pages. A run goes through all the lines before the next one begins, so
+/// that what disturbs the machine for a while is seen in one run of many lines, not in many runs of one line.
 pub fn print_main_table(runs: usize) {
     let lines = entries().into_iter().flat_map(|entry| KINDS.map(|kind| Line::new(entry, kind)));
-    let mut lines: Vec<Line> = lines.collect();
+    let streams = stream_entries().into_iter().map(|entry| Line::new(entry, Kind::Page));
+    let mut lines: Vec<Line> = lines.chain(streams).collect();
     for run in 1..=runs {
         eprintln!("run {run} of {runs}");
         for line in &mut lines {

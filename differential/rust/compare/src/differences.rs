@@ -5,11 +5,13 @@ use comparer::bytes;
 use comparer::case::Operation;
 use comparer::check::answer_text;
 use comparer::encoding::{Encoding, OwnedEncoding, Sources};
+use comparer::extent::Extent;
 use comparer::picture::{OwnedPicture, Sizes};
 use comparer::prefix::{Plane, PrefixCase};
 use comparer::report::shortened;
+use comparer::stream::{OwnedStream, OwnedStreamSize};
 use comparer::{Case, Input, Owned};
-use original::{Encoded, Header};
+use original::{Answer, Header};
 use std::process::ExitCode;
 
 /// A place and its inputs, the smallest that show it.
@@ -252,6 +254,49 @@ const ALIKE: [Place; 5] = [
     ("a subsampled picture needs less", &["iu 2 2 1 0 1:1 2001022002041003100A EE*6 EE*12"]),
 ];
 
+/// Where streams differ and their bodies do not, and some streams where both do the same. The parser of IronRDP's side is ours: unpacking
+/// differs as it does with bodies.
+const STREAMS: [Place; 5] = [
+    (
+        "packing is refused: IronRDP has already written the header byte",
+        &[
+            "sb 1 1 0 0 01020304 EE",
+            "sb 1 1 1 0 01020304 EE",
+            "sb 1 1 0 0 01020304 EE*4",
+            "sb 1 1 1 0 01020304 EE*6",
+            "sc 1 1 1 03 02 01 04 EE*4",
+            "sc 1 1 1 03 - 01 none EE*7",
+        ],
+    ),
+    ("a source is short, and the destination is empty", &["sc 1 1 1 - 02 03 none -", "sb 1 1 0 0 010203 -"]),
+    (
+        "the stream lacks its header byte or its pad byte, which the parser refuses",
+        &["su 1 1 - - EE*3", "su 0 1 - - EE*3", "su 1 1 20 - EE*3", "su 9000 1 20 - EE*3"],
+    ),
+    (
+        "four planes: the header byte has the alpha flag false, and what the decoder makes of them",
+        &[
+            "sb 1 1 0 1 01020304 EE*6",
+            "su 1 1 200403020100 - EE*3",
+            "su 1 1 000403020100 - EE*3",
+            "sb 1 1 1 1 01020304 EE*9",
+            "su 1 1 301004100310021001 EE*3 EE*3",
+            "su 1 1 101004100310021001 EE*3 EE*3",
+        ],
+    ),
+    (
+        "inside the domain, where both do the same",
+        &[
+            "sb 1 1 0 0 01020304 EE*5",
+            "sb 1 1 1 0 01020304 EE*7",
+            "sb 1 1 0 0 01020304 -",
+            "su 1 1 2003020100 - EE*3",
+            "su 1 1 30100310021001 EE*3 EE*3",
+            "su 1 1 2000 - EE*3",
+        ],
+    ),
+];
+
 /// Runs all tables.
 pub fn print_all() -> ExitCode {
     println!("plane unpacking");
@@ -266,6 +311,8 @@ pub fn print_all() -> ExitCode {
     ENCODING.iter().for_each(print_place);
     println!("picture packing, inside the domain");
     ENCODING_ALIKE.iter().for_each(print_place);
+    println!("streams");
+    STREAMS.iter().for_each(print_place);
     ExitCode::SUCCESS
 }
 
@@ -290,6 +337,8 @@ fn print_input(input: &Input) {
         Input::Call(case) => print_call(case),
         Input::Picture(case) => print_picture(case),
         Input::Sizes(case) => print_sizes(case),
+        Input::Stream(case) => print_stream(case),
+        Input::StreamSize(case) => print_stream_size(case),
         Input::Encoding(case) => print_encoding(case),
         Input::Prefix(case) => print_prefix(case),
     }
@@ -324,9 +373,7 @@ fn print_picture(case: &OwnedPicture) {
     println!("  {case}");
     let (mut work, mut image) = (case.work.clone(), Vec::new());
     match case.view().by_ironrdp(&mut work, &mut image) {
-        Some(answer) => {
-            println!("    IronRDP: {answer}, work area {}, image made {}", bytes::text(&work), bytes::text(&image));
-        }
+        Some(answer) => print_made(&answer, &work, &image),
         None => println!("    IronRDP: its header has no such definition or level"),
     }
     let (mut work, mut image) = (case.work.clone(), case.image.clone());
@@ -337,8 +384,33 @@ fn print_picture(case: &OwnedPicture) {
         level: form.level,
         subsampled: form.subsampled,
     };
-    let answer = answer_text(ours::decode(form, &case.body, &mut work, &mut image, width, height));
-    println!("    rdp6: {answer}, work area {}, image {}", bytes::text(&work), bytes::text(&image));
+    let answer = ours::decode(form, &case.body, &mut work, &mut image, width, height);
+    print_image(answer, &work, &image);
+}
+
+/// The same.
+fn print_stream(case: &OwnedStream) {
+    println!("  {case}");
+    let (mut work, mut image) = (case.work.clone(), Vec::new());
+    let answer = case.view().by_ironrdp(&mut work, &mut image);
+    print_made(&answer, &work, &image);
+    let (mut work, mut image) = (case.work.clone(), case.image.clone());
+    let answer = ours::stream_decode(&case.stream, &mut work, &mut image, case.width, case.height);
+    print_image(answer, &work, &image);
+}
+
+fn print_made(answer: &Answer, work: &[u8], image: &[u8]) {
+    println!("    IronRDP: {answer}, work area {}, image made {}", bytes::text(work), bytes::text(image));
+}
+
+fn print_image(answer: i64, work: &[u8], image: &[u8]) {
+    println!("    rdp6: {}, work area {}, image {}", answer_text(answer), bytes::text(work), bytes::text(image));
+}
+
+fn print_stream_size(case: &OwnedStreamSize) {
+    println!("  {case}");
+    println!("    by formula: work area {}", case.view().work());
+    println!("    rdp6: work area {}", ours::stream_work_size(&case.stream, case.width, case.height));
 }
 
 fn print_sizes(case: &Sizes) {
@@ -354,18 +426,22 @@ fn print_sizes(case: &Sizes) {
     println!("    rdp6: work area {work}, image {image}");
 }
 
-/// IronRDP gets a destination with a byte in front, in which its header is left.
+/// To pack a body, IronRDP gets a destination with a byte in front, in which its header is left.
 fn print_encoding(case: &OwnedEncoding) {
-    let Encoding { width, height, rle, .. } = *case;
+    let Encoding { extent, width, height, rle, .. } = *case;
     println!("  {case}");
-    let mut after = [&[0xEE], &case.before[..]].concat();
-    let Encoded { answer, header } = case.view().by_ironrdp(&mut after);
-    let header = header.map_or("no header".to_owned(), header_text);
-    println!("    IronRDP: {answer}, {header}, destination behind it {}", bytes::text(&after[1..]));
+    let mut after = Vec::new();
+    case.view().fill_destination(&mut after);
+    let encoded = case.view().by_ironrdp(&mut after);
+    let header = encoded.header.map_or("no header".to_owned(), header_text);
+    let (answer, after) = (case.view().answer(encoded), bytes::text(&after[case.bytes_before()..]));
+    let behind = if extent == Extent::Body { " behind it" } else { "" };
+    println!("    IronRDP: {answer}, {header}, destination{behind} {after}");
     let mut after = case.before.clone();
+    let dst = &mut after[..];
     let answer = match case.sources.view() {
-        Sources::Channels { colours, alpha } => ours::encode_channels(colours, alpha, &mut after, rle, width, height),
-        Sources::Pixels { pixels, alpha } => ours::encode_bitmap(pixels, alpha, &mut after, rle, width, height),
+        Sources::Channels { colours, alpha } => ours::encode_channels(extent, colours, alpha, dst, rle, width, height),
+        Sources::Pixels { pixels, alpha } => ours::encode_bitmap(extent, pixels, alpha, dst, rle, width, height),
     };
     println!("    rdp6: {}, destination {}", answer_text(answer), bytes::text(&after));
 }

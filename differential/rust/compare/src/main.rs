@@ -3,14 +3,10 @@
 mod differences;
 
 use comparer::arguments::{self, asks_for_help, refused, unexpected};
-use comparer::encoding::check::Encoders;
-use comparer::picture::check::Pictures;
 use comparer::report::report;
 use comparer::shrink::shrink;
-use comparer::{encoding, packing, picture, prefix, unpacking, Comparer, Library, Outcome};
-use ours::{rdp6_compress_8bpp_plane, rdp6_decode, rdp6_decompress_8bpp_plane, rdp6_image_size, rdp6_work_size};
-use ours::{rdp6_encode_bitmap, rdp6_encode_bitmap_alpha};
-use ours::{rdp6_encode_channels_stream, rdp6_encode_channels_stream_alpha};
+use comparer::{encoding, packing, picture, prefix, stream, unpacking, Comparer, Extent, Outcome};
+use ours::LIBRARY;
 use std::process::ExitCode;
 use std::time::{Duration, Instant};
 
@@ -31,6 +27,10 @@ A CASE is one of
   'is WIDTH HEIGHT RLE DEFINITION SUBSAMPLED'       the sizes of a picture's work area and image
   'pc WIDTH HEIGHT RLE R G B A DST'                 packs a picture from channels; A is none for three planes
   'pb WIDTH HEIGHT RLE ALPHA PIXELS DST'            packs a picture from pixels
+  'su WIDTH HEIGHT STREAM WORK IMAGE'               unpacks a stream
+  'ss WIDTH HEIGHT STREAM'                          the size of a stream's work area
+  'sc WIDTH HEIGHT RLE R G B A DST'                 packs a stream from channels
+  'sb WIDTH HEIGHT RLE ALPHA PIXELS DST'            packs a stream from pixels
   'px WIDTH HEIGHT SAMPLES M FOLLOWING DST'         packs a plane, then unpacks the first M bytes and, if M is all, FOLLOWING behind them
 Bytes are hexadecimal; HH*N stands for N times HH, with a comma behind it if more bytes follow; - stands for none.";
 
@@ -61,24 +61,16 @@ fn with_numbers(seconds: &str, seed: &str) -> ExitCode {
     }
 }
 
-const LIBRARY: Library = Library {
-    unpack: rdp6_decompress_8bpp_plane,
-    pack: rdp6_compress_8bpp_plane,
-    pictures: Pictures { decode: rdp6_decode, work_size: rdp6_work_size, image_size: rdp6_image_size },
-    encoders: Encoders {
-        channels: rdp6_encode_channels_stream,
-        channels_alpha: rdp6_encode_channels_stream_alpha,
-        bitmap: rdp6_encode_bitmap,
-        bitmap_alpha: rdp6_encode_bitmap_alpha,
-    },
-};
-
 /// Compares all fixed cases, then random ones until the time is over.
 fn compare(seconds: u64, seed: u64) -> ExitCode {
     println!("plane unpacking: IronRDP's decompress_8bpp_plane, rdp6_decompress_8bpp_plane");
     println!("plane packing: IronRDP's compress_8bpp_plane, rdp6_compress_8bpp_plane");
     println!("picture unpacking: IronRDP's BitmapStreamDecoderImpl, rdp6_decode");
     println!("picture packing: IronRDP's BitmapStreamEncoder, the four functions rdp6_encode_..");
+    println!(
+        "stream unpacking: IronRDP's decode_bitmap_stream_to_rgb24 with our parser of the header, rdp6_stream_decode"
+    );
+    println!("stream packing: IronRDP's BitmapStreamEncoder, the four functions rdp6_stream_encode_..");
     println!("{seconds} seconds, seed {seed}; each case is called twice, its buffers at either end of guarded pages");
     let mut comparer = Comparer::new(LIBRARY);
     let outcome = all_cases(&mut comparer, Duration::from_secs(seconds), seed);
@@ -100,21 +92,25 @@ fn all_cases(comparer: &mut Comparer, time: Duration, seed: u64) -> Outcome {
     let end = end.max(Instant::now() + time / 3);
     let mut unpacking = unpacking::random::Random::new(seed);
     let mut packing = packing::random::Random::new(seed);
-    let mut pictures = picture::random::Random::new(seed);
-    let mut encoding = encoding::random::Random::new(seed);
+    let mut pictures = picture::random::Random::new(seed, Extent::Body);
+    let mut encoding = encoding::random::Random::new(seed, Extent::Body);
+    let mut streams = stream::random::Random::new(seed);
+    let mut stream_encoding = encoding::random::Random::new(seed, Extent::Stream);
     let mut prefixes = prefix::random::Random::new(seed);
     let mut kinds: [Random<'_>; KINDS] = [
         ("unpacking", &mut |comparer| unpacking.round(comparer)),
         ("packing", &mut |comparer| packing.round(comparer)),
         ("pictures", &mut |comparer| pictures.round(comparer)),
         ("picture packing", &mut |comparer| encoding.round(comparer)),
+        ("streams", &mut |comparer| streams.round(comparer)),
+        ("stream packing", &mut |comparer| stream_encoding.round(comparer)),
         ("the prefix theorem", &mut |comparer| prefixes.round(comparer)),
     ];
     random_cases(comparer, &mut kinds, end)
 }
 
 /// How many kinds of random cases there are.
-const KINDS: usize = 5;
+const KINDS: usize = 7;
 
 /// A kind of random cases: its name, and a round of it.
 type Random<'a> = (&'static str, &'a mut dyn FnMut(&mut Comparer) -> Outcome);
@@ -147,11 +143,13 @@ fn random_cases(comparer: &mut Comparer, kinds: &mut [Random<'_>; KINDS], end: I
 /// The parts that are the same every time, with the seconds that they take.
 fn fixed_cases(comparer: &mut Comparer) -> Outcome {
     type Part = fn(&mut Comparer) -> Outcome;
-    let parts: [(&str, Part); 5] = [
+    let parts: [(&str, Part); 7] = [
         ("unpacking", unpacking::fixed::run),
         ("packing", packing::fixed::run),
         ("pictures", picture::fixed::run),
         ("picture packing", encoding::fixed::run),
+        ("streams", stream::fixed::run),
+        ("stream packing", encoding::fixed::run_streams),
         ("the prefix theorem", prefix::fixed::run),
     ];
     for (name, run) in parts {

@@ -3,10 +3,12 @@
 use crate::bytes;
 use crate::case::{Case, Operation, Owned};
 use crate::encoding::check::{Encoders, Packed};
+use crate::extent::Extent;
 use crate::guarded::{Buffer, GuardedMemory, Side, Watch, SIDES};
 use crate::input::{Input, View};
 use crate::picture::check::{Afters, Pictures};
 use crate::report::shortened;
+use crate::stream::check::Streams;
 use crate::tally::{Kind, Reference, Tally};
 use original::Answer;
 use std::fmt;
@@ -22,9 +24,18 @@ pub struct Library {
     pub pack: Function,
     pub pictures: Pictures,
     pub encoders: Encoders,
+    pub streams: Streams,
 }
 
 impl Library {
+    /// The functions that pack pictures into bodies or into streams.
+    pub fn encoders(&self, extent: Extent) -> Encoders {
+        match extent {
+            Extent::Body => self.encoders,
+            Extent::Stream => self.streams.encoders,
+        }
+    }
+
     fn function(&self, operation: Operation) -> Function {
         match operation {
             Operation::Unpack => self.unpack,
@@ -140,6 +151,8 @@ impl Comparer {
             }
             Input::Picture(case) => Ok((self.ask_picture(case.view()), self.afters.wanted())),
             Input::Sizes(case) => Ok((Answer::Done(case.work()), After(Vec::new()))),
+            Input::Stream(case) => Ok((self.ask_stream(case.view()), self.afters.wanted())),
+            Input::StreamSize(case) => Ok((Answer::Done(case.view().work()), After(Vec::new()))),
             Input::Encoding(case) => {
                 let answer = self.ask_encoding(case.view())?;
                 Ok((answer, self.packed.wanted_after()))
@@ -154,6 +167,8 @@ impl Comparer {
             Input::Call(case) => self.check_call(case),
             Input::Picture(case) => self.check_picture(case),
             Input::Sizes(case) => self.check_sizes(case),
+            Input::Stream(case) => self.check_stream(case),
+            Input::StreamSize(case) => self.check_stream_size(case.view()),
             Input::Encoding(case) => self.check_encoding(case),
             Input::Prefix(case) => self.check_prefix_case(case),
         }

@@ -1,10 +1,11 @@
-//! What can differ: one call of a plane coder, of a picture decoder or of a picture encoder, the two sizes of a picture, or one case
-//! of the prefix theorem.
+//! What can differ: one call of a plane coder, of a picture decoder, of a stream decoder or of a picture encoder, the two sizes of a
+//! picture, that of a stream, or one case of the prefix theorem.
 
 use crate::case::{Case, Owned};
 use crate::encoding::{Encoding, OwnedEncoding};
 use crate::picture::{OwnedPicture, Picture, Sizes};
 use crate::prefix::PrefixCase;
+use crate::stream::{OwnedStream, OwnedStreamSize, Stream, StreamSize};
 use std::fmt;
 
 /// A case that holds its own bytes, of whatever form.
@@ -13,6 +14,8 @@ pub enum Input {
     Call(Owned),
     Picture(OwnedPicture),
     Sizes(Sizes),
+    Stream(OwnedStream),
+    StreamSize(OwnedStreamSize),
     Encoding(OwnedEncoding),
     Prefix(PrefixCase),
 }
@@ -22,6 +25,8 @@ pub enum Input {
 pub enum View<'a> {
     Call(Case<'a>),
     Picture(Picture<'a>),
+    Stream(Stream<&'a [u8]>),
+    StreamSize(StreamSize<&'a [u8]>),
     Encoding(Encoding<&'a [u8]>),
 }
 
@@ -30,18 +35,22 @@ impl View<'_> {
         match self {
             View::Call(case) => Input::Call(case.to_owned()),
             View::Picture(case) => Input::Picture(case.to_owned()),
+            View::Stream(case) => Input::Stream(case.to_owned()),
+            View::StreamSize(case) => Input::StreamSize(case.to_owned()),
             View::Encoding(case) => Input::Encoding(case.to_owned()),
         }
     }
 }
 
 impl Input {
-    /// Reads a case that begins with `pu`, `pp`, `iu`, `is`, `pc`, `pb` or `px`.
+    /// Reads a case that begins with `pu`, `pp`, `iu`, `is`, `su`, `ss`, `pc`, `pb`, `sc`, `sb` or `px`.
     pub fn parse(text: &str) -> Option<Input> {
         Owned::parse(text)
             .map(Input::Call)
             .or_else(|| OwnedPicture::parse(text).map(Input::Picture))
             .or_else(|| Sizes::parse(text).map(Input::Sizes))
+            .or_else(|| OwnedStream::parse(text).map(Input::Stream))
+            .or_else(|| OwnedStreamSize::parse(text).map(Input::StreamSize))
             .or_else(|| OwnedEncoding::parse(text).map(Input::Encoding))
             .or_else(|| PrefixCase::parse(text).map(Input::Prefix))
     }
@@ -52,6 +61,8 @@ impl Input {
             Input::Call(case) => case.source.len() + case.before.len(),
             Input::Picture(case) => case.body.len() + case.work.len() + case.image.len(),
             Input::Sizes(_) => 0,
+            Input::Stream(case) => case.stream.len() + case.work.len() + case.image.len(),
+            Input::StreamSize(case) => case.stream.len(),
             Input::Encoding(case) => {
                 let sources: usize = case.sources.slices().iter().map(|(slice, _)| slice.len()).sum();
                 sources + case.before.len()
@@ -73,7 +84,8 @@ impl Input {
         let inside = match self {
             Input::Call(case) => case.view().refused_at_entry().is_none(),
             Input::Picture(case) => case.view().refused_outside().is_none(),
-            Input::Sizes(_) => false,
+            Input::Sizes(_) | Input::StreamSize(_) => false,
+            Input::Stream(case) => case.view().refused_outside().is_none(),
             Input::Encoding(case) => case.is_inside(),
             Input::Prefix(_) => return "the model",
         };
@@ -91,6 +103,8 @@ impl fmt::Display for Input {
             Input::Call(case) => case.fmt(f),
             Input::Picture(case) => case.fmt(f),
             Input::Sizes(case) => case.fmt(f),
+            Input::Stream(case) => case.fmt(f),
+            Input::StreamSize(case) => case.fmt(f),
             Input::Encoding(case) => case.fmt(f),
             Input::Prefix(case) => case.fmt(f),
         }

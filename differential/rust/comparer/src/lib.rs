@@ -1,4 +1,4 @@
-//! Compares a plane unpacker, a plane packer, a picture decoder and picture encoders with IronRDP, byte by byte, on buffers in guarded
+//! Compares a plane unpacker, a plane packer, picture decoders and picture encoders with IronRDP, byte by byte, on buffers in guarded
 //! pages; and both pairs of plane coders, IronRDP's and the library's, with the prefix theorem (FORMAT 9).
 //!
 //! The domain of a function is the set of its inputs for which IronRDP is the reference. Outside it, where IronRDP has no such checks,
@@ -9,6 +9,7 @@ pub mod bytes;
 pub mod case;
 pub mod check;
 pub mod encoding;
+pub mod extent;
 pub mod guarded;
 pub mod input;
 pub mod packing;
@@ -18,11 +19,13 @@ pub mod prefix;
 pub mod report;
 pub mod rng;
 pub mod shrink;
+pub mod stream;
 pub mod strings;
 pub mod tally;
 pub mod unpacking;
 
 pub use case::{Case, Owned};
 pub use check::{Comparer, Difference, Function, Library, Outcome};
+pub use extent::Extent;
 pub use input::Input;
 pub use rng::Rng;

@@ -7,11 +7,13 @@ mod picture;
 mod plane;
 mod prefix;
 mod rows;
+mod stream;
 mod unpack;
 
 use crate::case::Operation;
 use crate::check::{Comparer, Difference};
 use crate::input::Input;
+use crate::picture::OwnedPicture;
 use std::ops::Range;
 
 /// What one call of `shrink` may cost. Trying a case costs `PER_CASE`, and 1 for each byte of its buffers. So the limit is about the
@@ -55,12 +57,15 @@ impl Budget {
 
 /// The first smaller case that differs too.
 fn smaller_difference(comparer: &mut Comparer, case: &Input, budget: &mut Budget) -> Option<Box<Difference>> {
-    let tried = smaller_inputs(case).take_while(|smaller| budget.pays_for(smaller));
-    tried.filter(Input::is_valid).find_map(|smaller| comparer.check(&smaller).err())
+    // What smaller cases of a stream are made of.
+    let picture = if let Input::Stream(case) = case { Some(stream::picture(case)) } else { None };
+    let tried = smaller_inputs(case, picture.as_ref()).take_while(|smaller| budget.pays_for(smaller));
+    let mut valid = tried.filter(Input::is_valid);
+    valid.find_map(|smaller| comparer.check(&smaller).err())
 }
 
-/// Smaller cases of the same form, the boldest first.
-fn smaller_inputs(input: &Input) -> Box<dyn Iterator<Item = Input> + '_> {
+/// Smaller cases of the same form, the boldest first. Of a stream also its picture is passed.
+fn smaller_inputs<'a>(input: &'a Input, picture: Option<&'a OwnedPicture>) -> Box<dyn Iterator<Item = Input> + 'a> {
     match input {
         Input::Call(case) => match case.operation {
             Operation::Unpack => Box::new(unpack::smaller(case).map(Input::Call)),
@@ -68,6 +73,10 @@ fn smaller_inputs(input: &Input) -> Box<dyn Iterator<Item = Input> + '_> {
         },
         Input::Picture(case) => Box::new(picture::smaller(case).map(Input::Picture)),
         Input::Sizes(case) => Box::new(picture::smaller_sizes(case).map(Input::Sizes)),
+        Input::Stream(case) => {
+            Box::new(picture.into_iter().flat_map(|picture| stream::smaller(case, picture)).map(Input::Stream))
+        }
+        Input::StreamSize(case) => Box::new(stream::smaller_size(case).map(Input::StreamSize)),
         Input::Encoding(case) => Box::new(encoding::smaller(case).map(Input::Encoding)),
         Input::Prefix(case) => Box::new(prefix::smaller(case).map(Input::Prefix)),
     }

@@ -1,5 +1,6 @@
 //! How many cases of each kind were compared, and the answers that were required.
 
+use crate::extent::Extent;
 use original::Answer;
 use std::fmt;
 
@@ -85,6 +86,11 @@ pub enum Kind {
     RandomLengths,
     RandomBodies,
     RandomRefused,
+    StreamExamples,
+    StreamShort,
+    StreamHeaders,
+    StreamRefused,
+    RandomStreams,
     SizesTable,
     EncodingExamples,
     EncodingTable,
@@ -108,7 +114,7 @@ pub enum Kind {
 }
 
 /// Each kind with its part and its line of the report, in the order of the enum.
-const KINDS: [(Kind, Part, &str); 67] = [
+const KINDS: [(Kind, Part, &str); 72] = [
     (Kind::Short, Part::Unpacking, "all bodies of up to 2 bytes"),
     (Kind::Alphabet, Part::Unpacking, "bodies of 3 to 5 bytes, all forms of control bytes"),
     (Kind::Rooms, Part::Unpacking, "every destination length around width x height"),
@@ -156,6 +162,11 @@ const KINDS: [(Kind, Part, &str); 67] = [
     (Kind::RandomLengths, Part::Pictures, "random pictures, buffers of other lengths"),
     (Kind::RandomBodies, Part::Pictures, "bodies made segment by segment or of noise"),
     (Kind::RandomRefused, Part::Pictures, "random sides, levels, definitions outside the domain"),
+    (Kind::StreamExamples, Part::Pictures, "small streams with known answers"),
+    (Kind::StreamShort, Part::Pictures, "all streams of up to 2 bytes"),
+    (Kind::StreamHeaders, Part::Pictures, "every header byte, streams around their limits"),
+    (Kind::StreamRefused, Part::Pictures, "streams without header or pad byte, other refusals"),
+    (Kind::RandomStreams, Part::Pictures, "streams of noise, or with another header byte"),
     (Kind::SizesTable, Part::Sizes, "a table of sides"),
     (Kind::EncodingExamples, Part::Encoding, "small inputs with known answers"),
     (Kind::EncodingTable, Part::Encoding, "a table of sides, most of them refused"),
@@ -178,19 +189,22 @@ const KINDS: [(Kind, Part, &str); 67] = [
     (Kind::PrefixRandom, Part::Prefix, "random planes"),
 ];
 
+/// A count for each number of a refusal; none has the number 0.
+type Refused = [u64; 15];
+
 /// The answers that were required in a part.
 #[derive(Clone, Default)]
 struct Answers {
     done: u64,
-    /// By the number of the refusal: inside the domain, and outside it.
-    refused: [u64; 13],
-    refused_outside: [u64; 13],
+    /// Inside the domain, and outside it.
+    refused: Refused,
+    refused_outside: Refused,
     /// Outside the domain, and not refused.
     done_outside: u64,
 }
 
 /// `by 7: 3, by 8: 0` and so on.
-fn listed(refused: &[u64; 13], numbers: &[usize]) -> String {
+fn listed(refused: &Refused, numbers: &[usize]) -> String {
     if numbers.is_empty() {
         return "none".to_owned();
     }
@@ -213,7 +227,7 @@ impl Answers {
 
     /// The same in one line, with only the refusals that occurred.
     fn line(&self) -> String {
-        let side = |name: &str, done: u64, refused: &[u64; 13]| {
+        let side = |name: &str, done: u64, refused: &Refused| {
             let numbers: Vec<usize> = (1..refused.len()).filter(|&number| refused[number] > 0).collect();
             format!(
                 "{name} {} (done {done}, refused {})",
@@ -238,22 +252,29 @@ impl Answers {
     }
 }
 
+/// The cases of one extent. Those of planes and of the prefix theorem are counted with the bodies.
 #[derive(Clone)]
-pub struct Tally {
+struct Counts {
     kinds: [u64; KINDS.len()],
     parts: [Answers; 6],
     /// How many packed pictures were unpacked again.
-    pub unpacked_again: u64,
+    unpacked_again: u64,
 }
 
-impl Default for Tally {
+impl Default for Counts {
     fn default() -> Self {
-        Tally { kinds: [0; KINDS.len()], parts: Default::default(), unpacked_again: 0 }
+        Counts { kinds: [0; KINDS.len()], parts: Default::default(), unpacked_again: 0 }
     }
 }
 
-impl Tally {
-    pub fn count(&mut self, kind: Kind, reference: Reference, wanted: &Answer) {
+#[derive(Clone, Default)]
+pub struct Tally {
+    bodies: Counts,
+    streams: Counts,
+}
+
+impl Counts {
+    fn count(&mut self, kind: Kind, reference: Reference, wanted: &Answer) {
         self.kinds[kind as usize] += 1;
         let answers = &mut self.parts[KINDS[kind as usize].1 as usize];
         match (wanted, reference) {
@@ -264,43 +285,80 @@ impl Tally {
         }
     }
 
+    /// The kinds of one part that have cases.
+    fn write_kinds(&self, f: &mut fmt::Formatter<'_>, of: Part) -> fmt::Result {
+        for (kind, _, name) in KINDS.iter().filter(|line| line.1 == of) {
+            match self.kinds[*kind as usize] {
+                0 => {}
+                count => writeln!(f, "  {name:<52}{count:>11}")?,
+            }
+        }
+        Ok(())
+    }
+
+    /// Unpacking and packing of pictures. `whose` names the extent; `outside` are the refusals of unpacking outside the domain.
+    fn write_pictures(&self, f: &mut fmt::Formatter<'_>, whose: [&str; 2], outside: &[usize]) -> fmt::Result {
+        let [_, _, pictures, sizes, encoding, _] = &self.parts;
+        writeln!(f, "{} unpacking: {}", whose[0], pictures.all())?;
+        self.write_kinds(f, Part::Pictures)?;
+        pictures.write(f, "made", &[4, 7, 8, 9], outside)?;
+        writeln!(f, "{}, compared with formulas: {}", whose[1], sizes.all())?;
+        writeln!(f, "{} packing: {}", whose[0], encoding.all())?;
+        self.write_kinds(f, Part::Encoding)?;
+        encoding.write(f, "written", &[12], &[1, 2, 11, 12])?;
+        writeln!(f, "  unpacked again by IronRDP: {}", self.unpacked_again)
+    }
+}
+
+impl Tally {
+    /// Counts a case of a plane, of a body or of the prefix theorem.
+    pub fn count(&mut self, kind: Kind, reference: Reference, wanted: &Answer) {
+        self.count_in(Extent::Body, kind, reference, wanted);
+    }
+
+    pub fn count_in(&mut self, extent: Extent, kind: Kind, reference: Reference, wanted: &Answer) {
+        self.counts(extent).count(kind, reference, wanted);
+    }
+
+    pub fn count_unpacked_again(&mut self, extent: Extent) {
+        self.counts(extent).unpacked_again += 1;
+    }
+
+    fn counts(&mut self, extent: Extent) -> &mut Counts {
+        match extent {
+            Extent::Body => &mut self.bodies,
+            Extent::Stream => &mut self.streams,
+        }
+    }
+
     pub fn total(&self) -> u64 {
-        self.kinds.iter().sum()
+        self.bodies.kinds.iter().chain(&self.streams.kinds).sum()
     }
 
     /// The answers that were required in this kind's part, in a line.
-    pub fn answers_line(&self, kind: Kind) -> String {
-        self.parts[KINDS[kind as usize].1 as usize].line()
-    }
-
-    /// The lines of one part.
-    fn write_kinds(&self, f: &mut fmt::Formatter<'_>, of: Part) -> fmt::Result {
-        for (kind, _, name) in KINDS.iter().filter(|line| line.1 == of) {
-            writeln!(f, "  {name:<52}{:>11}", self.kinds[*kind as usize])?;
-        }
-        Ok(())
+    pub fn answers_line(&self, extent: Extent, kind: Kind) -> String {
+        let counts = match extent {
+            Extent::Body => &self.bodies,
+            Extent::Stream => &self.streams,
+        };
+        counts.parts[KINDS[kind as usize].1 as usize].line()
     }
 }
 
 impl fmt::Display for Tally {
     fn fmt(&self, f: &mut fmt::Formatter<'_>) -> fmt::Result {
-        let [unpacking, packing, pictures, sizes, encoding, prefix] = &self.parts;
+        let Tally { bodies, streams } = self;
+        let [unpacking, packing, _, _, _, prefix] = &bodies.parts;
         writeln!(f, "plane unpacking: {}", unpacking.all())?;
-        self.write_kinds(f, Part::Unpacking)?;
+        bodies.write_kinds(f, Part::Unpacking)?;
         unpacking.write(f, "read", &[7, 8, 9], &[1, 2, 10])?;
         writeln!(f, "plane packing: {}", packing.all())?;
-        self.write_kinds(f, Part::Packing)?;
+        bodies.write_kinds(f, Part::Packing)?;
         packing.write(f, "written", &[12], &[1, 2, 11])?;
-        writeln!(f, "picture unpacking: {}", pictures.all())?;
-        self.write_kinds(f, Part::Pictures)?;
-        pictures.write(f, "made", &[4, 7, 8, 9], &[1, 2, 3, 4, 5, 6])?;
-        writeln!(f, "sizes of work area and image, compared with formulas: {}", sizes.all())?;
-        writeln!(f, "picture packing: {}", encoding.all())?;
-        self.write_kinds(f, Part::Encoding)?;
-        encoding.write(f, "written", &[12], &[1, 2, 11, 12])?;
-        writeln!(f, "  unpacked again by IronRDP: {}", self.unpacked_again)?;
+        bodies.write_pictures(f, ["picture", "sizes of work area and image"], &[1, 2, 3, 4, 5, 6])?;
+        streams.write_pictures(f, ["stream", "sizes of a stream's work area"], &[1, 2, 4, 5, 6, 13, 14])?;
         writeln!(f, "prefix theorem, packed and unpacked again: {}", prefix.all())?;
-        self.write_kinds(f, Part::Prefix)?;
+        bodies.write_kinds(f, Part::Prefix)?;
         writeln!(f, "  IronRDP and rdp6 compared with a model of FORMAT 3 to 5: {}", prefix.all())?;
         write!(f, "    (complete {}, prefixes refused by 7: {})", prefix.done, prefix.refused[7])
     }

@@ -1,5 +1,6 @@
 //! The comparer must find every one of these mistakes in a picture decoder, and none in a right one.
 
+#[macro_use]
 mod support;
 
 use comparer::case::MAX_SIDE;
@@ -7,14 +8,14 @@ use comparer::picture::case::{ARGB, AYCOCG};
 use comparer::picture::fixed;
 use comparer::picture::random::Random;
 use comparer::picture::Form;
-use comparer::Library;
+use comparer::{Extent, Library};
 use support::decoder::{min_plane, pictures, unpacked, Call, Decoder, Right};
 use support::{Search, RIGHT_LIBRARY};
 
 const SEARCH: Search = Search {
     fixed: fixed::run,
     random: |seed| {
-        let mut random = Random::new(seed);
+        let mut random = Random::new(seed, Extent::Body);
         Box::new(move |comparer| random.round(comparer))
     },
     rounds: 500,
@@ -33,15 +34,8 @@ fn a_right_decoder_has_no_difference() {
 
 /// A decoder that does some steps differently, and the smallest input that shows it.
 macro_rules! wrong {
-    ($name:ident, $smallest:literal, { $($steps:tt)* }) => {
-        #[test]
-        fn $name() {
-            struct Wrong;
-            impl Decoder for Wrong {
-                $($steps)*
-            }
-            SEARCH.finds(with::<Wrong>(), $smallest);
-        }
+    ($($mistake:tt)*) => {
+        wrong_function!(Decoder, with, $($mistake)*);
     };
 }
 

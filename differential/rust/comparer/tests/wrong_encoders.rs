@@ -1,5 +1,6 @@
 //! The comparer must find every one of these mistakes in a picture encoder, and none in a right one.
 
+#[macro_use]
 mod support;
 
 use comparer::case::MAX_SIDE;
@@ -18,15 +19,8 @@ fn a_right_encoder_has_no_difference() {
 
 /// An encoder that does some steps differently, and the smallest input that shows it.
 macro_rules! wrong {
-    ($name:ident, $smallest:literal, { $($steps:tt)* }) => {
-        #[test]
-        fn $name() {
-            struct Wrong;
-            impl Encoder for Wrong {
-                $($steps)*
-            }
-            SEARCH.finds(with_encoder::<Wrong>(), $smallest);
-        }
+    ($($mistake:tt)*) => {
+        wrong_function!(Encoder, with_encoder, $($mistake)*);
     };
 }
 

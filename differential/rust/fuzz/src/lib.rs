@@ -7,11 +7,11 @@ mod sanitizer;
 use comparer::report::report;
 use comparer::shrink::shrink;
 use comparer::tally::Kind;
-use comparer::Comparer;
+use comparer::{Comparer, Extent};
 use edges::Edges;
 use reliability::case_from_bytes::case_from_bytes;
 use reliability::entry::Entry;
-use reliability::{compare, kind_of};
+use reliability::{compare, counted_as};
 use std::env;
 use std::ffi::c_int;
 use std::process::{abort, exit};
@@ -22,8 +22,8 @@ struct State {
     entry: Entry,
     comparer: Comparer,
     edges: Edges,
-    /// The kind under which the entry's cases are counted, once there was one.
-    kind: Option<Kind>,
+    /// How the entry's cases are counted, once there was one.
+    counted: Option<(Extent, Kind)>,
 }
 
 /// Made once at the start and kept to the end, for the report.
@@ -45,7 +45,7 @@ fn entry() -> Entry {
 pub extern "C" fn LLVMFuzzerInitialize(_count: *mut c_int, _words: *mut *mut *mut u8) -> c_int {
     let mut comparer = Comparer::new(wrong::library());
     comparer.watch_by(sanitizer::watch);
-    let state = State { entry: entry(), comparer, edges: Edges::new(), kind: None };
+    let state = State { entry: entry(), comparer, edges: Edges::new(), counted: None };
     STATE.store(Box::into_raw(Box::new(state)), Ordering::Relaxed);
     // SAFETY: a function of this library, which stays.
     unsafe { atexit(print_report) };
@@ -62,7 +62,7 @@ pub unsafe extern "C" fn LLVMFuzzerTestOneInput(data: *const u8, len: usize) -> 
     // SAFETY: valid during this call; an empty slice can be NULL.
     let bytes = if len == 0 { &[] } else { unsafe { std::slice::from_raw_parts(data, len) } };
     let input = case_from_bytes(state.entry, bytes);
-    state.kind = Some(kind_of(&input));
+    state.counted = Some(counted_as(&input));
     if let Err(difference) = compare(&mut state.comparer, &input) {
         eprintln!("{}", report(&shrink(&mut state.comparer, difference), "difference.txt"));
         abort();
@@ -76,7 +76,7 @@ extern "C" fn print_report() {
     // SAFETY: made at the start, and nothing else uses it any more.
     let state = unsafe { &mut *STATE.load(Ordering::Relaxed) };
     let (name, tally) = (state.entry.name(), &state.comparer.tally);
-    let answers = state.kind.map_or(String::new(), |kind| tally.answers_line(kind));
+    let answers = state.counted.map_or(String::new(), |(extent, kind)| tally.answers_line(extent, kind));
     println!("fuzz: {name}: {} inputs, 0 different; {answers}", tally.total());
     println!("fuzz: {name}: {}", state.edges.report());
 }

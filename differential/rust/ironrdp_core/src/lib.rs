@@ -1,13 +1,18 @@
 //! Stands in for the crate `ironrdp_core`. Of it the plane coder uses `WriteCursor`: a slice and how far it is written. The
-//! picture decoder names `decode` and its error, but is entered behind them. The picture encoder writes its header through
-//! `encode_cursor`, and refuses what has no room with `not_enough_bytes_err`.
+//! picture decoder has its stream parsed by `decode`; the comparison of bodies enters it behind that. The picture encoder writes its
+//! header through `encode_cursor`, and refuses what has no room with `not_enough_bytes_err`.
 
 use std::convert::Infallible;
 use std::fmt;
 
-/// What a parser could not read, without its reasons.
-#[derive(Debug)]
-pub struct DecodeError;
+/// What a parser could not read. The reasons are those of the only parser here, which is ours (`ironrdp_pdu`).
+#[derive(Clone, Copy, Debug, PartialEq, Eq)]
+pub enum DecodeError {
+    /// The stream is empty.
+    NoHeader,
+    /// A raw stream has nothing behind its header byte.
+    NoPad,
+}
 
 impl fmt::Display for DecodeError {
     fn fmt(&self, f: &mut fmt::Formatter<'_>) -> fmt::Result {

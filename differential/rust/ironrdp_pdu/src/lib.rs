@@ -1,6 +1,9 @@
 //! Stands in for the crate `ironrdp_pdu`. Of it the picture decoder uses the record of a picture: the header's settings and
-//! the body. The parser of the header byte is not available, and nothing here replaces it. The picture encoder writes the
-//! header's settings: here as a byte from which they can be read again.
+//! the body. The picture encoder writes the header's settings.
+//!
+//! IronRDP's own code of the header byte, its parser and its writer, is not among the sources. What is here is ours, written from the
+//! layout of MS-RDPEGDI 2.2.2.5.1 as FORMAT 1.2 has it. So the comparison shows that both decoders do the same with the same header and
+//! body; it does not show how IronRDP takes a stream apart.
 
 pub mod bitmap {
     pub mod rdp6 {
@@ -41,6 +44,11 @@ pub mod bitmap {
 
             /// The settings that were written as this byte, if any were.
             pub fn of_byte(byte: u8) -> Option<Self> {
+                Some(Self::read(byte)).filter(|header| header.byte() == Some(byte))
+            }
+
+            /// What a header byte says. Bits 6 and 7 are ignored, and so is bit 3 of ARGB.
+            fn read(byte: u8) -> Self {
                 let color_plane_definition = match byte & LOSS_LEVEL {
                     0 => ColorPlaneDefinition::Argb,
                     color_loss_level => {
@@ -49,8 +57,7 @@ pub mod bitmap {
                     }
                 };
                 let (enable_rle_compression, use_alpha) = (byte & RLE != 0, byte & NO_ALPHA == 0);
-                let header = Self { enable_rle_compression, use_alpha, color_plane_definition };
-                (header.byte() == Some(byte)).then_some(header)
+                Self { enable_rle_compression, use_alpha, color_plane_definition }
             }
         }
 
@@ -88,16 +95,25 @@ pub mod bitmap {
             }
         }
 
-        /// Never called: the picture decoder is entered behind the parser.
+        /// Our stand-in for the parser: the header byte, then the body. The last byte of a raw stream is the pad byte, which is not part
+        /// of the body.
         impl<'de> Decode<'de> for BitmapStream<'de> {
-            fn decode(_src: &'de [u8]) -> Result<Self, DecodeError> {
-                Err(DecodeError)
+            fn decode(src: &'de [u8]) -> Result<Self, DecodeError> {
+                let (&byte, behind) = src.split_first().ok_or(DecodeError::NoHeader)?;
+                let header = BitmapStreamHeader::read(byte);
+                let color_planes = match behind {
+                    body if header.enable_rle_compression => body,
+                    [body @ .., _pad] => body,
+                    [] => return Err(DecodeError::NoPad),
+                };
+                Ok(Self { header, color_planes })
             }
         }
 
         #[cfg(test)]
         mod tests {
-            use super::{BitmapStreamHeader, ColorPlaneDefinition};
+            use super::{BitmapStream, BitmapStreamHeader, ColorPlaneDefinition};
+            use ironrdp_core::{decode, DecodeError};
 
             #[test]
             fn settings_are_told_from_their_byte() {
@@ -110,6 +126,20 @@ pub mod bitmap {
                 let none =
                     BitmapStreamHeader { enable_rle_compression: rle, use_alpha: false, color_plane_definition: argb };
                 assert_eq!(none.byte(), Some(0x30));
+            }
+
+            #[test]
+            fn streams_are_taken_apart() {
+                let parsed = |stream: &'static [u8]| {
+                    decode::<BitmapStream<'_>>(stream).map(|bitmap| (bitmap.header.byte(), bitmap.color_panes_data()))
+                };
+                assert_eq!(parsed(&[]), Err(DecodeError::NoHeader));
+                assert_eq!(parsed(&[0x20]), Err(DecodeError::NoPad));
+                assert_eq!(parsed(&[0x20, 9]), Ok((Some(0x20), &[][..])));
+                assert_eq!(parsed(&[0x0B, 1, 2, 9]), Ok((Some(0x0B), &[1, 2][..])));
+                assert_eq!(parsed(&[0x30]), Ok((Some(0x30), &[][..])));
+                // Bits that are ignored: 6 and 7, and 3 of ARGB.
+                assert_eq!(parsed(&[0xF8, 1, 2]), Ok((Some(0x30), &[1, 2][..])));
             }
         }
     }

@@ -1,4 +1,5 @@
-//! The picture encoder. Its destination begins with the header byte, which the library does not write.
+//! The picture encoder. It writes whole streams: its destination begins with the header byte, which only those functions of the library
+//! write that write whole streams too.
 
 use crate::rdp6::bitmap_stream::encoder::{BgrAChannels, BitmapEncodeError, BitmapStreamEncoder};
 use crate::{panics, Answer, Header};
@@ -6,10 +7,20 @@ use crate::{panics, Answer, Header};
 /// What IronRDP does with a picture that it is to pack.
 #[derive(Clone, Debug, PartialEq, Eq)]
 pub struct Encoded {
-    /// The bytes written behind the header's byte, or why not all were.
+    /// The bytes written, the header byte among them, or why not all were.
     pub answer: Answer,
     /// The header as it was passed to its writer, before any sample was read; none if there was no room for its byte.
     pub header: Option<Header>,
+}
+
+impl Encoded {
+    /// The bytes written behind the header byte, or why not all were.
+    pub fn body_answer(self) -> Answer {
+        match self.answer {
+            Answer::Done(count) => Answer::Done(count - 1),
+            other => other,
+        }
+    }
 }
 
 /// Packs, and returns the answer and the header. The destination's first byte is not read before the call.
@@ -19,7 +30,7 @@ fn encoded(dst: &mut [u8], encode: impl FnOnce(&mut [u8]) -> Result<usize, Bitma
         *first = 0xEE;
     }
     let answer = match panics::caught(|| encode(dst)) {
-        Ok(Ok(count)) => Answer::Done(count - 1),
+        Ok(Ok(count)) => Answer::Done(count),
         Ok(Err(BitmapEncodeError::Rle(error))) => Answer::of_packing(error),
         Ok(Err(BitmapEncodeError::Encode(_))) => Answer::Refused(12),
         Err(place) => Answer::Panic(place),
@@ -68,14 +79,21 @@ mod tests {
     fn a_pixel_raw_and_rle_with_alpha_and_without() {
         let mut dst = [0; 10];
         let packed = |count, rle| Encoded { answer: Answer::Done(count), header: header(rle) };
-        assert_eq!(encode_bitmap(&[1, 2, 3, 4], false, &mut dst, false, 1, 1), packed(4, false));
-        assert_eq!(dst[1..5], [3, 2, 1, 0]);
-        assert_eq!(encode_bitmap(&[1, 2, 3, 4], true, &mut dst, true, 1, 1), packed(8, true));
-        assert_eq!(dst[1..9], [0x10, 4, 0x10, 3, 0x10, 2, 0x10, 1]);
-        assert_eq!(encode_channels([&[3], &[2], &[1]], None, &mut dst, true, 1, 1), packed(6, true));
+        assert_eq!(encode_bitmap(&[1, 2, 3, 4], false, &mut dst, false, 1, 1), packed(5, false));
+        assert_eq!(dst[..5], [0x20, 3, 2, 1, 0]);
+        assert_eq!(encode_bitmap(&[1, 2, 3, 4], true, &mut dst, true, 1, 1), packed(9, true));
+        assert_eq!(dst[..9], [0x30, 0x10, 4, 0x10, 3, 0x10, 2, 0x10, 1]);
+        assert_eq!(encode_channels([&[3], &[2], &[1]], None, &mut dst, true, 1, 1), packed(7, true));
         assert_eq!(dst[1..7], [0x10, 3, 0x10, 2, 0x10, 1]);
-        assert_eq!(encode_channels([&[3], &[2], &[1]], Some(&[4]), &mut dst, false, 1, 1), packed(5, false));
-        assert_eq!(dst[1..6], [4, 3, 2, 1, 0]);
+        assert_eq!(encode_channels([&[3], &[2], &[1]], Some(&[4]), &mut dst, false, 1, 1), packed(6, false));
+        assert_eq!(dst[..6], [0x20, 4, 3, 2, 1, 0]);
+    }
+
+    #[test]
+    fn a_body_is_one_byte_shorter() {
+        let encoded = |answer| Encoded { answer, header: header(true) };
+        assert_eq!(encoded(Answer::Done(7)).body_answer(), Answer::Done(6));
+        assert_eq!(encoded(Answer::Refused(12)).body_answer(), Answer::Refused(12));
     }
 
     #[test]

@@ -9,7 +9,7 @@ mod panics;
 mod picture;
 
 pub use encoder::{encode_bitmap, encode_channels, Encoded};
-pub use picture::{decode, Definition, Header};
+pub use picture::{decode, stream_decode, Definition, Header};
 
 use ironrdp_core::WriteCursor;
 use rdp6::rle::{compress_8bpp_plane, decompress_8bpp_plane, RleDecodeError, RleEncodeError};
@@ -21,7 +21,7 @@ pub enum Answer {
     /// So many bytes were read by unpacking a plane, or written by packing one or a picture; or so many bytes of image were
     /// made.
     Done(usize),
-    /// By the number of FORMAT 8: 7, 8 or 9 from unpacking, also 4 from a picture; 11 or 12 from packing.
+    /// By the number of FORMAT 8: 7, 8 or 9 from unpacking, also 4 from a picture, 13 or 14 from a stream; 11 or 12 from packing.
     Refused(u8),
     /// The destination ended inside the first row. This has no number: the library refuses by 10 before.
     WriteError,

@@ -1,7 +1,8 @@
-//! The picture decoder, from behind the parser of the header byte.
+//! The picture decoder: with whole streams, whose parser is ours (`ironrdp_pdu`), and from behind the parser with bodies.
 
-use crate::rdp6::bitmap_stream::decoder::{init_and_decode, BitmapDecodeError};
+use crate::rdp6::bitmap_stream::decoder::{init_and_decode, BitmapDecodeError, BitmapStreamDecoder};
 use crate::{panics, Answer};
+use ironrdp_core::DecodeError;
 use ironrdp_pdu::bitmap::rdp6::{BitmapStream, BitmapStreamHeader, ColorPlaneDefinition};
 
 /// What the colour planes are.
@@ -55,18 +56,34 @@ pub fn decode(
 ) -> Answer {
     let earlier = image.len();
     let bitmap = BitmapStream::new(header.parsed(), body);
-    match panics::caught(|| init_and_decode(bitmap, width, height, image, work)) {
-        Ok(Ok(())) => Answer::Done(image.len() - earlier),
+    let outcome = panics::caught(|| init_and_decode(bitmap, width, height, image, work));
+    answer(outcome, image.len() - earlier)
+}
+
+/// `BitmapStreamDecoder::decode_bitmap_stream_to_rgb24`. The two buffers are as with `decode`.
+pub fn stream_decode(stream: &[u8], work: &mut Vec<u8>, image: &mut Vec<u8>, width: usize, height: usize) -> Answer {
+    let earlier = image.len();
+    let mut decoder = BitmapStreamDecoder::with_planes(std::mem::take(work));
+    let outcome = panics::caught(|| decoder.decode_bitmap_stream_to_rgb24(stream, image, width, height));
+    *work = decoder.into_planes();
+    answer(outcome, image.len() - earlier)
+}
+
+/// What a decoder answers that has appended so many bytes.
+fn answer(outcome: Result<Result<(), BitmapDecodeError>, String>, made: usize) -> Answer {
+    match outcome {
+        Ok(Ok(())) => Answer::Done(made),
         Ok(Err(BitmapDecodeError::InvalidUncompressedDataSize)) => Answer::Refused(4),
         Ok(Err(BitmapDecodeError::Rle(error))) => Answer::of(error),
-        Ok(Err(BitmapDecodeError::Decode(_))) => unreachable!("nothing is parsed"),
+        Ok(Err(BitmapDecodeError::Decode(DecodeError::NoHeader))) => Answer::Refused(13),
+        Ok(Err(BitmapDecodeError::Decode(DecodeError::NoPad))) => Answer::Refused(14),
         Err(place) => Answer::Panic(place),
     }
 }
 
 #[cfg(test)]
 mod tests {
-    use super::{decode, Definition, Header};
+    use super::{decode, stream_decode, Definition, Header};
     use crate::Answer;
 
     const ARGB: Definition = Definition::Argb;
@@ -96,5 +113,18 @@ mod tests {
         let (mut work, mut image) = (vec![0xEE; 5], vec![]);
         assert_eq!(decode(header, &[0xFF, 100, 0x40, 0], &mut work, &mut image, 1, 1), Answer::Done(3));
         assert_eq!((work, image), (vec![0xEE; 5], vec![0, 100, 228]));
+    }
+
+    #[test]
+    fn streams_and_what_the_parser_refuses() {
+        let (mut work, mut image) = (vec![0xEE; 5], vec![0xDD]);
+        let mut answer = |stream: &[u8]| stream_decode(stream, &mut work, &mut image, 1, 1);
+        assert_eq!(answer(&[]), Answer::Refused(13));
+        assert_eq!(answer(&[0x20]), Answer::Refused(14));
+        assert_eq!(answer(&[0x20, 1, 2, 3]), Answer::Refused(4));
+        assert_eq!(answer(&[0x20, 1, 2, 3, 9]), Answer::Done(3));
+        assert_eq!(answer(&[0x30, 0x10, 4, 0x10, 5, 0x10, 6]), Answer::Done(3));
+        assert_eq!(answer(&[0x30, 0x10, 7, 0x10]), Answer::Refused(7));
+        assert_eq!((work, image), (vec![7, 5, 6], vec![0xDD, 1, 2, 3, 4, 5, 6]));
     }
 }

@@ -4,7 +4,35 @@
 #[path = "../../../../bindings/rust/src/ffi.rs"]
 mod ffi;
 
+use comparer::encoding::check::Encoders;
+use comparer::picture::check::Pictures;
+use comparer::stream::check::Streams;
+use comparer::{Extent, Library};
+
 pub use ffi::*;
+
+/// The library as it is compared.
+pub const LIBRARY: Library = Library {
+    unpack: rdp6_decompress_8bpp_plane,
+    pack: rdp6_compress_8bpp_plane,
+    pictures: Pictures { decode: rdp6_decode, work_size: rdp6_work_size, image_size: rdp6_image_size },
+    encoders: Encoders {
+        channels: rdp6_encode_channels,
+        channels_alpha: rdp6_encode_channels_alpha,
+        bitmap: rdp6_encode_bitmap,
+        bitmap_alpha: rdp6_encode_bitmap_alpha,
+    },
+    streams: Streams {
+        decode: rdp6_stream_decode,
+        work_size: rdp6_stream_work_size,
+        encoders: Encoders {
+            channels: rdp6_stream_encode_channels,
+            channels_alpha: rdp6_stream_encode_channels_alpha,
+            bitmap: rdp6_stream_encode_bitmap,
+            bitmap_alpha: rdp6_stream_encode_bitmap_alpha,
+        },
+    },
+};
 
 /// Unpacking a plane.
 pub fn unpack(src: &[u8], dst: &mut [u8], width: usize, height: usize) -> i64 {
@@ -50,8 +78,22 @@ pub fn decode(form: Form, body: &[u8], work: &mut [u8], image: &mut [u8], width:
     }
 }
 
+/// Unpacking a stream.
+pub fn stream_decode(stream: &[u8], work: &mut [u8], image: &mut [u8], width: usize, height: usize) -> i64 {
+    let (work_at, work_len, image_at, image_len) = (work.as_mut_ptr(), work.len(), image.as_mut_ptr(), image.len());
+    // SAFETY: all three are valid during the call, and their lengths are right.
+    unsafe { rdp6_stream_decode(stream.as_ptr(), stream.len(), work_at, work_len, image_at, image_len, width, height) }
+}
+
+/// The minimum length of a stream's work area.
+pub fn stream_work_size(stream: &[u8], width: usize, height: usize) -> usize {
+    // SAFETY: it is valid during the call, and its length is right.
+    unsafe { rdp6_stream_work_size(stream.as_ptr(), stream.len(), width, height) }
+}
+
 /// Packing a picture from channels: R, G and B, and A if there is one.
 pub fn encode_channels(
+    extent: Extent,
     [r, g, b]: [&[u8]; 3],
     alpha: Option<&[u8]>,
     dst: &mut [u8],
@@ -61,34 +103,31 @@ pub fn encode_channels(
 ) -> i64 {
     let (r_at, g_at, b_at, dst_at) = (r.as_ptr(), g.as_ptr(), b.as_ptr(), dst.as_mut_ptr());
     let (r_len, g_len, b_len, room) = (r.len(), g.len(), b.len(), dst.len());
+    let Encoders { channels, channels_alpha, .. } = LIBRARY.encoders(extent);
     // SAFETY: all are valid during the call, and their lengths are right.
     unsafe {
         match alpha {
-            None => {
-                rdp6_encode_channels_stream(r_at, r_len, g_at, g_len, b_at, b_len, dst_at, room, rle, width, height)
+            None => channels(r_at, r_len, g_at, g_len, b_at, b_len, dst_at, room, rle, width, height),
+            Some(a) => {
+                let (a_at, a_len) = (a.as_ptr(), a.len());
+                channels_alpha(r_at, r_len, g_at, g_len, b_at, b_len, a_at, a_len, dst_at, room, rle, width, height)
             }
-            Some(a) => rdp6_encode_channels_stream_alpha(
-                r_at,
-                r_len,
-                g_at,
-                g_len,
-                b_at,
-                b_len,
-                a.as_ptr(),
-                a.len(),
-                dst_at,
-                room,
-                rle,
-                width,
-                height,
-            ),
         }
     }
 }
 
 /// Packing a picture from pixels.
-pub fn encode_bitmap(pixels: &[u8], alpha: bool, dst: &mut [u8], rle: bool, width: usize, height: usize) -> i64 {
-    let encode = if alpha { rdp6_encode_bitmap_alpha } else { rdp6_encode_bitmap };
+pub fn encode_bitmap(
+    extent: Extent,
+    pixels: &[u8],
+    alpha: bool,
+    dst: &mut [u8],
+    rle: bool,
+    width: usize,
+    height: usize,
+) -> i64 {
+    let Encoders { bitmap, bitmap_alpha, .. } = LIBRARY.encoders(extent);
+    let encode = if alpha { bitmap_alpha } else { bitmap };
     // SAFETY: both are valid during the call, and their lengths are right.
     unsafe { encode(pixels.as_ptr(), pixels.len(), dst.as_mut_ptr(), dst.len(), rle, width, height) }
 }

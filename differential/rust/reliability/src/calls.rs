@@ -2,9 +2,10 @@
 
 use crate::LIBRARY;
 use comparer::case::Operation;
-use comparer::encoding::{OwnedEncoding, Sources};
+use comparer::encoding::{Encoding, OwnedEncoding, Sources};
 use comparer::picture::{OwnedPicture, Sizes};
 use comparer::report::report;
+use comparer::stream::OwnedStream;
 use comparer::{bytes, Comparer, Input, Owned};
 
 /// The answer of a call; the second number is for the two sizes alone.
@@ -54,7 +55,7 @@ impl Caller {
     pub fn compare(&mut self, known: &Known) -> Result<(), String> {
         let answers = self.call(&known.input);
         let written: [&[u8]; 2] = match known.input {
-            Input::Picture(_) => [&self.work, &self.image],
+            Input::Picture(_) | Input::Stream(_) => [&self.work, &self.image],
             _ => [&self.image, &[]],
         };
         if answers == known.answers && known.afters.iter().zip(written).all(|(wanted, got)| wanted == got) {
@@ -76,6 +77,8 @@ impl Caller {
             Input::Call(case) => [self.call_plane(case), 0],
             Input::Picture(case) => [self.call_decoder(case), 0],
             Input::Sizes(case) => call_sizes(case),
+            Input::Stream(case) => [self.call_stream_decoder(case), 0],
+            Input::StreamSize(case) => [ours::stream_work_size(&case.stream, case.width, case.height) as i64, 0],
             Input::Encoding(case) => [self.call_encoder(case), 0],
             Input::Prefix(_) => unreachable!("a case of the prefix theorem is no single call"),
         }
@@ -97,12 +100,21 @@ impl Caller {
         ours::decode(form, &case.body, &mut self.work, &mut self.image, case.width, case.height)
     }
 
+    fn call_stream_decoder(&mut self, case: &OwnedStream) -> i64 {
+        fill(&mut self.work, &case.work);
+        fill(&mut self.image, &case.image);
+        ours::stream_decode(&case.stream, &mut self.work, &mut self.image, case.width, case.height)
+    }
+
     fn call_encoder(&mut self, case: &OwnedEncoding) -> i64 {
         fill(&mut self.image, &case.before);
-        let (dst, rle, width, height) = (&mut self.image[..], case.rle, case.width, case.height);
+        let dst = &mut self.image[..];
+        let Encoding { extent, width, height, rle, .. } = *case;
         match case.sources.view() {
-            Sources::Channels { colours, alpha } => ours::encode_channels(colours, alpha, dst, rle, width, height),
-            Sources::Pixels { pixels, alpha } => ours::encode_bitmap(pixels, alpha, dst, rle, width, height),
+            Sources::Channels { colours, alpha } => {
+                ours::encode_channels(extent, colours, alpha, dst, rle, width, height)
+            }
+            Sources::Pixels { pixels, alpha } => ours::encode_bitmap(extent, pixels, alpha, dst, rle, width, height),
         }
     }
 }

@@ -6,7 +6,9 @@ use comparer::case::{Operation, BOUNDARY_SIDES, MAX_SIDE};
 use comparer::encoding::{Encoding, OwnedEncoding, Sources};
 use comparer::picture::{Form, OwnedPicture, Sizes};
 use comparer::planes::counts;
-use comparer::{Input, Owned};
+use comparer::stream::header::{form_of, joined};
+use comparer::stream::{OwnedStream, OwnedStreamSize};
+use comparer::{Extent, Input, Owned};
 
 /// A plane inside the domain has at most so many samples, so that no case takes long.
 const MOST_SAMPLES: usize = 1 << 13;
@@ -22,10 +24,16 @@ pub fn case_from_bytes(entry: Entry, bytes: &[u8]) -> Input {
         Entry::Pack => maker.pack(),
         Entry::Decode => maker.decode(),
         Entry::Sizes => maker.sizes(),
-        Entry::Channels => maker.channels(false),
-        Entry::ChannelsAlpha => maker.channels(true),
-        Entry::Bitmap => maker.bitmap(false),
-        Entry::BitmapAlpha => maker.bitmap(true),
+        Entry::Channels => maker.channels(Extent::Body, false),
+        Entry::ChannelsAlpha => maker.channels(Extent::Body, true),
+        Entry::Bitmap => maker.bitmap(Extent::Body, false),
+        Entry::BitmapAlpha => maker.bitmap(Extent::Body, true),
+        Entry::StreamDecode => maker.stream_decode(),
+        Entry::StreamWorkSize => maker.stream_work_size(),
+        Entry::StreamChannels => maker.channels(Extent::Stream, false),
+        Entry::StreamChannelsAlpha => maker.channels(Extent::Stream, true),
+        Entry::StreamBitmap => maker.bitmap(Extent::Stream, false),
+        Entry::StreamBitmapAlpha => maker.bitmap(Extent::Stream, true),
     }
 }
 
@@ -195,7 +203,24 @@ impl CaseMaker<'_> {
     }
 
     fn decode(&mut self) -> Input {
-        let (form, (width, height)) = (self.form(), self.sides());
+        let (form, sides) = (self.form(), self.sides());
+        Input::Picture(self.picture(form, sides))
+    }
+
+    /// Mostly a complete stream, with any header byte, sometimes its first bytes alone.
+    fn stream_decode(&mut self) -> Input {
+        let (header, sides, cut) = (self.byte(), self.sides(), self.byte());
+        let form = form_of(header);
+        let OwnedPicture { width, height, body, work, image, .. } = self.picture(form, sides);
+        let mut stream = joined(form, header, &body, cut).expect("every byte has a form");
+        if cut >= 232 {
+            stream.truncate(usize::from(cut % 4));
+        }
+        Input::Stream(OwnedStream { width, height, stream, work, image })
+    }
+
+    /// A picture of a form and of sides.
+    fn picture(&mut self, form: Form, (width, height): (usize, usize)) -> OwnedPicture {
         let inside = is_inside(width, height);
         let (min_work, min_body) = match inside {
             true => (form.work_len(width, height), form.min_body(width, height)),
@@ -211,16 +236,28 @@ impl CaseMaker<'_> {
             let len = with_byte(body_len, |maker| maker.length(min_body));
             self.bytes(len)
         };
-        Input::Picture(OwnedPicture { width, height, form, body, work, image })
+        OwnedPicture { width, height, form, body, work, image }
     }
 
     fn sizes(&mut self) -> Input {
         let Form { rle, definition, subsampled, .. } = self.form();
-        let (width, height) = match self.byte() % 4 {
+        let (width, height) = self.any_sides();
+        Input::Sizes(Sizes { width, height, rle, definition, subsampled })
+    }
+
+    /// A stream of up to three bytes.
+    fn stream_work_size(&mut self) -> Input {
+        let len = usize::from(self.byte() % 4);
+        let (width, height) = self.any_sides();
+        Input::StreamSize(OwnedStreamSize { width, height, stream: self.bytes(len) })
+    }
+
+    /// Sides of which buffers need not be made.
+    fn any_sides(&mut self) -> (usize, usize) {
+        match self.byte() % 4 {
             0 => (self.word(), self.word()),
             _ => (self.side(), self.side()),
-        };
-        Input::Sizes(Sizes { width, height, rle, definition, subsampled })
+        }
     }
 
     /// Any number, its high bytes last, so that few bytes make a small one.
@@ -228,21 +265,23 @@ impl CaseMaker<'_> {
         (0..8).map(|at| usize::from(self.byte()) << (8 * at)).sum()
     }
 
-    fn channels(&mut self, alpha: bool) -> Input {
+    fn channels(&mut self, extent: Extent, alpha: bool) -> Input {
         let (rle, (width, height)) = (self.byte() & 3 != 0, self.sides());
         let lens: [usize; 4] = std::array::from_fn(|_| self.length(samples(width, height)));
         let (by_packing, room, seed) = (self.byte() & 1 == 0, self.byte(), self.byte());
         let colours = [self.bytes(lens[0]), self.bytes(lens[1]), self.bytes(lens[2])];
         let alpha = alpha.then(|| self.bytes(lens[3]));
-        encoding(width, height, rle, Sources::Channels { colours, alpha }, (by_packing, room, seed))
+        let sources = Sources::Channels { colours, alpha };
+        encoding(Encoding { extent, width, height, rle, sources, before: Vec::new() }, (by_packing, room, seed))
     }
 
-    fn bitmap(&mut self, alpha: bool) -> Input {
+    fn bitmap(&mut self, extent: Extent, alpha: bool) -> Input {
         let (rle, (width, height)) = (self.byte() & 3 != 0, self.sides());
         let len = self.length(4 * samples(width, height));
         let (by_packing, room, seed) = (self.byte() & 1 == 0, self.byte(), self.byte());
         let pixels = self.bytes(len);
-        encoding(width, height, rle, Sources::Pixels { pixels, alpha }, (by_packing, room, seed))
+        let sources = Sources::Pixels { pixels, alpha };
+        encoding(Encoding { extent, width, height, rle, sources, before: Vec::new() }, (by_packing, room, seed))
     }
 }
 
@@ -296,20 +335,13 @@ fn harmed(mut body: Vec<u8>, harm: u8, place: usize, value: u8) -> Vec<u8> {
 }
 
 /// A picture to pack into a destination that is chosen by the length of its packing, or by what is always enough.
-fn encoding(
-    width: usize,
-    height: usize,
-    rle: bool,
-    sources: Sources<Vec<u8>>,
-    (by_packing, room, seed): (bool, u8, u8),
-) -> Input {
-    let case: OwnedEncoding = Encoding { width, height, rle, sources, before: Vec::new() };
+fn encoding(case: OwnedEncoding, (by_packing, room, seed): (bool, u8, u8)) -> Input {
     let exact = if by_packing && case.refused_at_entry().is_none() {
         case.view().packing().len()
     } else {
-        2 * case.sources.planes() * samples(width, height) + 1
+        2 * case.sources.planes() * samples(case.width, case.height) + 1
     };
-    let len = with_byte(room, |maker| maker.length(exact));
+    let len = with_byte(room, |maker| maker.length(case.extent.header_len() + exact));
     let before = with_byte(seed, |maker| maker.before(len));
     Input::Encoding(Encoding { before, ..case })
 }
@@ -331,6 +363,23 @@ mod tests {
                 assert_eq!(Input::parse(&case.to_string()), Some(case));
             }
         }
+    }
+
+    /// Most streams are complete, and some lack a part.
+    #[test]
+    fn streams_of_every_header_byte_and_without_one_are_reached() {
+        let (mut headers, mut refused) = (BTreeSet::new(), BTreeSet::new());
+        let mut rng = Rng::new(6);
+        for byte in 0..=255_u8 {
+            let bytes = [&[byte, 0, 0, 0, 0, byte.wrapping_mul(89)], &rng.bytes(40)[..]].concat();
+            let Input::Stream(case) = case_from_bytes(Entry::StreamDecode, &bytes) else { panic!("no stream") };
+            headers.extend(case.stream.first().copied());
+            refused.insert(case.view().refused_outside());
+            let Input::StreamSize(case) = case_from_bytes(Entry::StreamWorkSize, &bytes) else { panic!("no size") };
+            assert_eq!(case.stream.len(), usize::from(byte % 4));
+        }
+        assert!(headers.len() > 200, "{} header bytes", headers.len());
+        assert!([None, Some(13), Some(14)].iter().all(|answer| refused.contains(answer)), "{refused:?}");
     }
 
     /// The second byte chooses the definition, the third one the level.

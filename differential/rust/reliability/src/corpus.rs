@@ -6,7 +6,7 @@ use comparer::Comparer;
 use reliability::case_from_bytes::case_from_bytes;
 use reliability::entry::{Entry, ENTRIES};
 use reliability::mix::Mix;
-use reliability::{compare, kind_of, LIBRARY};
+use reliability::{compare, counted_as, LIBRARY};
 use std::fs;
 use std::path::Path;
 
@@ -44,17 +44,17 @@ fn replay_entry(entry: Entry, folder: &Path) -> Result<u64, String> {
     let mut paths: Vec<_> = files.filter_map(|file| file.ok().map(|file| file.path())).collect();
     paths.sort();
     let mut comparer = Comparer::new(LIBRARY);
-    let mut kind = None;
+    let mut counted = None;
     for path in paths {
         let bytes = fs::read(&path).map_err(|why| failed(&path, &why))?;
         let input = case_from_bytes(entry, &bytes);
-        kind = Some(kind_of(&input));
+        counted = Some(counted_as(&input));
         if let Err(difference) = compare(&mut comparer, &input) {
             let shrunk = shrink(&mut comparer, difference);
             return Err(format!("replay: FAILED at {}\n{}", path.display(), report(&shrunk, "difference.txt")));
         }
     }
-    let answers = kind.map_or(String::new(), |kind| comparer.tally.answers_line(kind));
+    let answers = counted.map_or(String::new(), |(extent, kind)| comparer.tally.answers_line(extent, kind));
     println!("replay: {}: {answers}", entry.name());
     Ok(comparer.tally.total())
 }

@@ -97,7 +97,7 @@ pub fn run(seconds: u64, seed: u64) -> Result<(), String> {
     let mut run = Run::new(seed)?;
     let digest = run.reference.iter().fold(0xCBF2_9CE4_8422_2325, |sum, known| known.digest(sum));
     println!(
-        "reference cases of each entry: {}, digest of the required answers: {digest:016x}",
+        "reference cases of each entry: {} at least, digest of the required answers: {digest:016x}",
         REFERENCE / ENTRIES.len()
     );
     let warm = run.until(begin + time / 20)?;

@@ -11,9 +11,15 @@ pub enum Entry {
     ChannelsAlpha,
     Bitmap,
     BitmapAlpha,
+    StreamDecode,
+    StreamWorkSize,
+    StreamChannels,
+    StreamChannelsAlpha,
+    StreamBitmap,
+    StreamBitmapAlpha,
 }
 
-pub const ENTRIES: [Entry; 8] = [
+pub const ENTRIES: [Entry; 14] = [
     Entry::Unpack,
     Entry::Pack,
     Entry::Decode,
@@ -22,6 +28,12 @@ pub const ENTRIES: [Entry; 8] = [
     Entry::ChannelsAlpha,
     Entry::Bitmap,
     Entry::BitmapAlpha,
+    Entry::StreamDecode,
+    Entry::StreamWorkSize,
+    Entry::StreamChannels,
+    Entry::StreamChannelsAlpha,
+    Entry::StreamBitmap,
+    Entry::StreamBitmapAlpha,
 ];
 
 impl Entry {
@@ -31,10 +43,16 @@ impl Entry {
             Entry::Pack => "rdp6_compress_8bpp_plane",
             Entry::Decode => "rdp6_decode",
             Entry::Sizes => "rdp6_work_size",
-            Entry::Channels => "rdp6_encode_channels_stream",
-            Entry::ChannelsAlpha => "rdp6_encode_channels_stream_alpha",
+            Entry::Channels => "rdp6_encode_channels",
+            Entry::ChannelsAlpha => "rdp6_encode_channels_alpha",
             Entry::Bitmap => "rdp6_encode_bitmap",
             Entry::BitmapAlpha => "rdp6_encode_bitmap_alpha",
+            Entry::StreamDecode => "rdp6_stream_decode",
+            Entry::StreamWorkSize => "rdp6_stream_work_size",
+            Entry::StreamChannels => "rdp6_stream_encode_channels",
+            Entry::StreamChannelsAlpha => "rdp6_stream_encode_channels_alpha",
+            Entry::StreamBitmap => "rdp6_stream_encode_bitmap",
+            Entry::StreamBitmapAlpha => "rdp6_stream_encode_bitmap_alpha",
         }
     }
 

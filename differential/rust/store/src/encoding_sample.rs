@@ -2,27 +2,38 @@
 
 use crate::encodings::{Encodings, Entry};
 use crate::{BEFORE, LONGEST};
-use comparer::encoding::examples::EXAMPLES;
-use comparer::encoding::given::{form, given, ALPHAS, FORMS};
+use comparer::encoding::examples;
+use comparer::encoding::given::{form, ALPHAS, FORMS};
 use comparer::encoding::{OwnedEncoding, Sources};
 use comparer::picture::Planes;
 use comparer::planes::{segment_starts, PlaneKind, PLANE_KINDS, WIDTHS};
-use comparer::Rng;
+use comparer::{Extent, Rng};
 
-/// All parts, each with random numbers of its own, so that a change in one leaves the others as they are.
+/// All parts, each with random numbers of its own, so that a change in one leaves the others as they are. Of streams there are fewer
+/// cases: their bodies are those of the other files.
 pub fn keep_all(stored: &mut Encodings) {
     examples(stored);
-    every_room(stored, &mut Rng::new(1));
-    small_sides(stored, &mut Rng::new(2));
-    segment_ends(stored, &mut Rng::new(3));
-    every_kind(stored, &mut Rng::new(4));
-    longer_sources(stored, &mut Rng::new(5));
+    match stored.extent {
+        Extent::Body => {
+            every_room(stored, &mut Rng::new(1), &ROOMS);
+            small_sides(stored, &mut Rng::new(2), 6);
+            segment_ends(stored, &mut Rng::new(3));
+            every_kind(stored, &mut Rng::new(4));
+            longer_sources(stored, &mut Rng::new(5), 30);
+        }
+        Extent::Stream => {
+            every_room(stored, &mut Rng::new(1), &ROOMS[..2]);
+            small_sides(stored, &mut Rng::new(2), 4);
+            longer_sources(stored, &mut Rng::new(5), 8);
+        }
+    }
     wide_and_tall(stored);
 }
 
 /// Small inputs with known answers, as far as they are of this entry and inside the domain.
 fn examples(stored: &mut Encodings) {
-    let cases = EXAMPLES.iter().map(|example| OwnedEncoding::parse(example.0).expect("the table's own text"));
+    let examples = examples::of(stored.extent).iter();
+    let cases = examples.map(|example| OwnedEncoding::parse(example.0).expect("the table's own text"));
     for mut case in cases.filter(OwnedEncoding::is_inside) {
         let entry = if matches!(case.sources, Sources::Pixels { .. }) { Entry::Bitmap } else { Entry::Channels };
         if entry == stored.entry {
@@ -37,17 +48,16 @@ fn forms() -> impl Iterator<Item = (bool, bool)> {
     FORMS.into_iter().flat_map(|rle| ALPHAS.map(|alpha| (rle, alpha)))
 }
 
+/// Sides and planes of the pictures that are stored with every room.
+const ROOMS: [((usize, usize), PlaneKind); 4] =
+    [((1, 1), PlaneKind::Noise), ((2, 2), PlaneKind::FewValues), ((3, 1), PlaneKind::Noise), ((4, 1), PlaneKind::Runs)];
+
 /// Pictures with every room from none to one too many.
-fn every_room(stored: &mut Encodings, rng: &mut Rng) {
-    for (sides, plane_kind) in [
-        ((1, 1), PlaneKind::Noise),
-        ((2, 2), PlaneKind::FewValues),
-        ((3, 1), PlaneKind::Noise),
-        ((4, 1), PlaneKind::Runs),
-    ] {
+fn every_room(stored: &mut Encodings, rng: &mut Rng, pictures: &[((usize, usize), PlaneKind)]) {
+    for &(sides, plane_kind) in pictures {
         for (rle, alpha) in forms() {
             let sources = stored.sources(&Planes::with_kinds(rng, form(alpha), sides, &[plane_kind]));
-            for room in 0..=given(rle, sides, sources.view()).packing().len() + 1 {
+            for room in 0..=stored.given(rle, sides, &sources).packing().len() + 1 {
                 stored.keep(rle, sides, &sources, room);
             }
         }
@@ -62,15 +72,15 @@ fn keep_with_and_without_room(
     sides: (usize, usize),
     sources: &Sources<Vec<u8>>,
 ) {
-    let packing = given(rle, sides, sources.view()).packing();
+    let packing = stored.given(rle, sides, sources).packing();
     stored.keep(rle, sides, sources, packing.len() + rng.pick(&[0, 0, 0, 1, 9]));
     let less = if rle { *rng.pick(&segment_starts(&packing)) + rng.below(3) } else { packing.len() - rng.below(2) };
     stored.keep(rle, sides, sources, less.saturating_sub(1));
 }
 
-/// All sides of 1 to 6.
-fn small_sides(stored: &mut Encodings, rng: &mut Rng) {
-    for sides in (1..=6).flat_map(|width| (1..=6).map(move |height| (width, height))) {
+/// All sides from 1 to this one.
+fn small_sides(stored: &mut Encodings, rng: &mut Rng, most: usize) {
+    for sides in (1..=most).flat_map(|width| (1..=most).map(move |height| (width, height))) {
         for (rle, alpha) in forms() {
             let sources = stored.sources(&Planes::random(rng, form(alpha), sides.0, sides.1));
             keep_with_and_without_room(stored, rng, rle, sides, &sources);
@@ -84,7 +94,7 @@ fn segment_ends(stored: &mut Encodings, rng: &mut Rng) {
         for alpha in ALPHAS {
             let plane_kind = *rng.pick(&[PlaneKind::Runs, PlaneKind::RowsAlike]);
             let sources = stored.sources(&Planes::with_kinds(rng, form(alpha), sides, &[plane_kind]));
-            let packing = given(true, sides, sources.view()).packing();
+            let packing = stored.given(true, sides, &sources).packing();
             for end in segment_starts(&packing).into_iter().chain([packing.len()]) {
                 for room in [end.saturating_sub(1), end, end + 1] {
                     stored.keep(true, sides, &sources, room);
@@ -108,8 +118,8 @@ fn every_kind(stored: &mut Encodings, rng: &mut Rng) {
 
 /// More samples than the picture has, which RLE leaves; and bytes behind the pixels that make no complete one, which raw packing leaves
 /// too.
-fn longer_sources(stored: &mut Encodings, rng: &mut Rng) {
-    for _ in 0..30 {
+fn longer_sources(stored: &mut Encodings, rng: &mut Rng, times: usize) {
+    for _ in 0..times {
         for (rle, alpha) in forms() {
             let sides = (rng.within(1, 9), rng.within(1, 3));
             let sources = stored.sources(&Planes::random(rng, form(alpha), sides.0, sides.1));
@@ -130,7 +140,7 @@ fn wide_and_tall(stored: &mut Encodings) {
         let colours = [plane.clone(), plane.clone(), plane.clone()];
         let sources = stored.sources(&Planes { colours, alpha: Some(plane) });
         let sources = if alpha { sources } else { without_alpha(sources) };
-        let len = given(true, sides, sources.view()).packing().len();
+        let len = stored.given(true, sides, &sources).packing().len();
         for room in [len + 1, len, len - 1, len / 2, 100, 1, 0].into_iter().filter(|&room| room <= LONGEST) {
             stored.keep(true, sides, &sources, room);
         }

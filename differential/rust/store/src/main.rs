@@ -7,11 +7,18 @@
 //!
 //!   WIDTH HEIGHT RLE ALPHA DEFINITION LEVEL SUBSAMPLED WORKROOM IMAGEROOM ANSWER BODY WORK-AFTER IMAGE-AFTER
 //!
-//! and two for packing of pictures, from channels and from pixels,
+//! two for packing of pictures, from channels and from pixels,
 //!
 //!   WIDTH HEIGHT RLE ALPHA ROOM ANSWER SENTRLE SENTALPHA SENTDEFINITION R G B A AFTER
 //!   WIDTH HEIGHT RLE ALPHA ROOM ANSWER SENTRLE SENTALPHA SENTDEFINITION PIXELS AFTER
 //!
+//! and the same of whole streams,
+//!
+//!   WIDTH HEIGHT WORKROOM IMAGEROOM WORKSIZE ANSWER STREAM WORK-AFTER IMAGE-AFTER
+//!   WIDTH HEIGHT RLE ALPHA ROOM ANSWER R G B A AFTER
+//!   WIDTH HEIGHT RLE ALPHA ROOM ANSWER PIXELS AFTER
+//!
+//! WORKSIZE, the first byte of a stream's destination after a refusal, and the refusals 13 and 14 are not IronRDP's but FORMAT's.
 //! docs/TESTS.md has the format. The samples are the same in every run. `USAGE` has the command line.
 
 mod boundary_sample;
@@ -22,10 +29,13 @@ mod pack_sample;
 mod picture_sample;
 mod pictures;
 mod sample;
+mod stream_sample;
+mod streams;
 
 use comparer::arguments::{asks_for_help, refused, unexpected};
 use comparer::bytes;
 use comparer::case::{Operation, Owned};
+use comparer::Extent;
 use encodings::Entry;
 use std::collections::HashSet;
 use std::path::Path;
@@ -95,7 +105,7 @@ impl Stored {
 /// A file, in the folder of the program that replays it, and what makes its lines.
 type Sample = (&'static str, fn() -> Lines);
 
-const SAMPLES: [Sample; 7] = [
+const SAMPLES: [Sample; 10] = [
     ("plane_vectors/data/plane-unpack.txt", || Stored::lines_of(Operation::Unpack, sample::keep_all)),
     ("plane_vectors/data/plane-unpack-boundaries.txt", || {
         Stored::lines_of(Operation::Unpack, boundary_sample::keep_all)
@@ -105,8 +115,11 @@ const SAMPLES: [Sample; 7] = [
         Stored::lines_of(Operation::Pack, pack_boundary_sample::keep_all)
     }),
     ("picture_vectors/data/picture-unpack.txt", pictures::lines),
-    ("encode_vectors/data/channels-pack.txt", || encodings::lines(Entry::Channels)),
-    ("encode_vectors/data/bitmap-pack.txt", || encodings::lines(Entry::Bitmap)),
+    ("picture_vectors/data/stream-unpack.txt", streams::lines),
+    ("encode_vectors/data/channels-pack.txt", || encodings::lines(Entry::Channels, Extent::Body)),
+    ("encode_vectors/data/bitmap-pack.txt", || encodings::lines(Entry::Bitmap, Extent::Body)),
+    ("encode_vectors/data/stream-channels-pack.txt", || encodings::lines(Entry::Channels, Extent::Stream)),
+    ("encode_vectors/data/stream-bitmap-pack.txt", || encodings::lines(Entry::Bitmap, Extent::Stream)),
 ];
 
 const USAGE: &str = "\

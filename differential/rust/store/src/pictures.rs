@@ -4,6 +4,7 @@ use crate::{picture_sample, Lines, BEFORE};
 use comparer::bytes;
 use comparer::picture::{Form, OwnedPicture};
 use comparer::Rng;
+use original::Answer;
 
 /// Longer lines are left out.
 const LONGEST_LINE: usize = 1000;
@@ -12,6 +13,41 @@ const LONGEST_LINE: usize = 1000;
 pub struct Pictures {
     lines: Lines,
     rng: Rng,
+}
+
+/// IronRDP's answer as a number, and what the work area and the image hold then.
+pub struct Asked {
+    pub number: i64,
+    pub work: Vec<u8>,
+    pub image: Vec<u8>,
+}
+
+impl Asked {
+    /// Asks IronRDP. Bytes of the work area beyond the planes, which IronRDP would drop, are those that were there; so are bytes of
+    /// the image beyond what it makes.
+    pub fn new((work, image): (&[u8], &[u8]), by_ironrdp: impl FnOnce(&mut Vec<u8>, &mut Vec<u8>) -> Answer) -> Asked {
+        assert!(work.iter().chain(image).all(|&byte| byte == BEFORE), "slices that hold something else");
+        let (mut work_after, mut image_after) = (work.to_vec(), Vec::new());
+        let answer = by_ironrdp(&mut work_after, &mut image_after);
+        let Some(number) = answer.number() else {
+            panic!("IronRDP answers {answer} inside the domain");
+        };
+        work_after.extend_from_slice(&work[work_after.len()..]);
+        image_after.extend_from_slice(&image[image_after.len()..]);
+        Asked { number, work: work_after, image: image_after }
+    }
+
+    /// The lengths of the two buffers as a line has them.
+    pub fn rooms(&self) -> String {
+        format!("{} {}", self.work.len(), self.image.len())
+    }
+}
+
+/// Adds a line, unless it is too long.
+pub fn add(lines: &mut Lines, line: String) {
+    if line.len() <= LONGEST_LINE {
+        lines.add(line);
+    }
 }
 
 /// The lines of all cases.
@@ -39,25 +75,16 @@ impl Pictures {
         self.keep(form, sides, body, (more[0], more[1]));
     }
 
-    /// Asks IronRDP and keeps its answer. Bytes of the work area beyond the planes, which IronRDP would drop, are those that
-    /// were there; so are bytes of the image beyond what it makes.
+    /// Asks IronRDP and keeps its answer.
     pub fn keep_case(&mut self, case: &OwnedPicture) {
         assert_eq!(case.view().refused_outside(), None, "a case outside the domain");
-        assert!(case.work.iter().chain(&case.image).all(|&byte| byte == BEFORE), "slices that hold something else");
-        let (mut work, mut image) = (case.work.clone(), Vec::new());
-        let answer = case.view().by_ironrdp(&mut work, &mut image).expect("a form that IronRDP has");
-        let Some(number) = answer.number() else {
-            panic!("IronRDP answers {answer} inside the domain");
-        };
-        work.extend_from_slice(&case.work[work.len()..]);
-        image.extend_from_slice(&case.image[image.len()..]);
+        let asked = Asked::new((&case.work, &case.image), |work, image| {
+            case.view().by_ironrdp(work, image).expect("a form that IronRDP has")
+        });
         let Form { rle, alpha, definition, level, subsampled } = case.form;
         let flags = format!("{} {} {definition} {level} {}", flag(rle), flag(alpha), flag(subsampled));
-        let rooms = format!("{} {}", work.len(), image.len());
-        let bytes = [&case.body, &work, &image].map(|some| bytes::text(some)).join(" ");
-        let line = format!("{} {} {flags} {rooms} {number} {bytes}\n", case.width, case.height);
-        if line.len() <= LONGEST_LINE {
-            self.lines.add(line);
-        }
+        let bytes = [&case.body, &asked.work, &asked.image].map(|some| bytes::text(some)).join(" ");
+        let (rooms, number) = (asked.rooms(), asked.number);
+        add(&mut self.lines, format!("{} {} {flags} {rooms} {number} {bytes}\n", case.width, case.height));
     }
 }

@@ -7,6 +7,7 @@ use comparer::encoding::given::pixels;
 use comparer::encoding::Sources;
 use comparer::picture::{Form, Planes};
 use comparer::planes::PlaneKind;
+use comparer::stream::header::joined;
 use comparer::Rng;
 use std::hint::black_box;
 
@@ -27,6 +28,8 @@ kind!(OfPlane, no_plane: (Bytes, usize, Room, usize, usize, usize) -> i64);
 kind!(Decode, no_decode: (bool, bool, u32, u32, bool, Bytes, usize, Room, usize, Room, usize, usize, usize) -> i64);
 kind!(WorkSize, no_work_size: (bool, u32, bool, usize, usize) -> usize);
 kind!(ImageSize, no_image_size: (usize, usize) -> usize);
+kind!(StreamDecode, no_stream_decode: (Bytes, usize, Room, usize, Room, usize, usize, usize) -> i64);
+kind!(StreamWorkSize, no_stream_work_size: (Bytes, usize, usize, usize) -> usize);
 kind!(OfPixels, no_pixels: (Bytes, usize, Room, usize, bool, usize, usize) -> i64);
 kind!(OfThree, no_three: (Bytes, usize, Bytes, usize, Bytes, usize, Room, usize, bool, usize, usize) -> i64);
 kind!(OfFour, no_four: (Bytes, usize, Bytes, usize, Bytes, usize, Bytes, usize, Room, usize, bool, usize, usize) -> i64);
@@ -140,6 +143,31 @@ fn of_decode() -> usize {
     })
 }
 
+fn of_stream_decode() -> usize {
+    let stream = |form| {
+        cases(form, 6, move |planes, width, height| {
+            joined(form, 0, &planes.body(form, width, height), 0).expect("a form that has a header byte")
+        })
+    };
+    let cases: Vec<Case> = forms().into_iter().flat_map(stream).collect();
+    most(ours::rdp6_stream_decode as StreamDecode, no_stream_decode, &cases, |function, case, room| {
+        let (stream, len) = case.part(0, 1);
+        let (image, work) = room.split_at_mut(case.room / 2);
+        let (image, image_len, work, work_len) = (image.as_mut_ptr(), image.len(), work.as_mut_ptr(), work.len());
+        // SAFETY: all slices are valid during the call, and their lengths are right.
+        unsafe { function(stream, len, work, work_len, image, image_len, case.width, case.height) };
+    })
+}
+
+fn of_stream_work_size() -> usize {
+    let call = |header: u8| {
+        // SAFETY: one byte, which is valid during the call.
+        let mut call = |size: StreamWorkSize| _ = unsafe { size(&raw const header, 1, 8192, 8191) };
+        taken(ours::rdp6_stream_work_size as StreamWorkSize, no_stream_work_size, &mut call)
+    };
+    (0..=255).map(call).max().expect("some header bytes")
+}
+
 /// The forms that a packer is asked for.
 fn packed_forms(alpha: bool) -> [Form; 2] {
     [true, false].map(|rle| Form::argb(rle, alpha))
@@ -164,8 +192,7 @@ fn channel_cases(alpha: bool) -> Vec<Case> {
     packed_forms(alpha).into_iter().flat_map(|form| cases(form, 8, channels)).collect()
 }
 
-fn of_three() -> usize {
-    let function = ours::rdp6_encode_channels_stream as OfThree;
+fn of_three(function: OfThree) -> usize {
     most(function, no_three, &channel_cases(false), |function, case, dst| {
         let [(r, r_len), (g, g_len), (b, b_len)] = [0, 1, 2].map(|at| case.part(at, 3));
         let (at, room, rle) = (dst.as_mut_ptr(), dst.len(), case.form.rle);
@@ -174,8 +201,7 @@ fn of_three() -> usize {
     })
 }
 
-fn of_four() -> usize {
-    let function = ours::rdp6_encode_channels_stream_alpha as OfFour;
+fn of_four(function: OfFour) -> usize {
     most(function, no_four, &channel_cases(true), |function, case, dst| {
         let [(r, r_len), (g, g_len), (b, b_len), (a, a_len)] = [0, 1, 2, 3].map(|at| case.part(at, 4));
         let (at, room, rle) = (dst.as_mut_ptr(), dst.len(), case.form.rle);
@@ -201,7 +227,7 @@ fn of_image_size() -> usize {
 }
 
 /// Every C function with the most stack that it took.
-pub fn deepest() -> [(&'static str, usize); 9] {
+pub fn deepest() -> [(&'static str, usize); 15] {
     let packed =
         |plane: &[u8], width, height| original::pack(plane, width, height).expect("a complete plane with room");
     [
@@ -212,7 +238,13 @@ pub fn deepest() -> [(&'static str, usize); 9] {
         ("rdp6_image_size", of_image_size()),
         ("rdp6_encode_bitmap", of_pixels(ours::rdp6_encode_bitmap, false)),
         ("rdp6_encode_bitmap_alpha", of_pixels(ours::rdp6_encode_bitmap_alpha, true)),
-        ("rdp6_encode_channels_stream", of_three()),
-        ("rdp6_encode_channels_stream_alpha", of_four()),
+        ("rdp6_encode_channels", of_three(ours::rdp6_encode_channels)),
+        ("rdp6_encode_channels_alpha", of_four(ours::rdp6_encode_channels_alpha)),
+        ("rdp6_stream_decode", of_stream_decode()),
+        ("rdp6_stream_work_size", of_stream_work_size()),
+        ("rdp6_stream_encode_bitmap", of_pixels(ours::rdp6_stream_encode_bitmap, false)),
+        ("rdp6_stream_encode_bitmap_alpha", of_pixels(ours::rdp6_stream_encode_bitmap_alpha, true)),
+        ("rdp6_stream_encode_channels", of_three(ours::rdp6_stream_encode_channels)),
+        ("rdp6_stream_encode_channels_alpha", of_four(ours::rdp6_stream_encode_channels_alpha)),
     ]
 }

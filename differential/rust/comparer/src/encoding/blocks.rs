@@ -4,6 +4,7 @@
 use crate::check::{Comparer, Outcome};
 use crate::encoding::given::{self, in_rooms, ALPHAS};
 use crate::encoding::Encoding;
+use crate::extent::Extent;
 use crate::packing::boundary::LENGTHS;
 use crate::packing::places::{
     every_run, longest_row, outer_runs, planes_with, with_run, ARRAY_WIDTHS, FEW, LONGEST, VALUES,
@@ -35,6 +36,9 @@ pub fn run(comparer: &mut Comparer) -> Outcome {
     Ok(())
 }
 
+/// Bodies alone: that a stream has the same body is seen with the other pictures.
+const BLOCKS: (Kind, Extent) = (Kind::EncodingBlocks, Extent::Body);
+
 /// How many segments' ends a destination is tried around.
 const SEGMENTS: usize = 6;
 
@@ -44,7 +48,7 @@ fn noise(comparer: &mut Comparer, earlier: &mut Earlier, width: usize) -> Outcom
     for (height, alpha) in (1..=3).flat_map(|height| ALPHAS.map(|alpha| (height, alpha))) {
         let planes = Planes::with_kinds(rng, given::form(alpha), (width, height), &[PlaneKind::Noise]);
         let rooms = |case: Encoding<&[u8]>| case.rooms(SEGMENTS);
-        in_rooms(comparer, earlier, Kind::EncodingBlocks, (width, height), &planes, rooms)?;
+        in_rooms(comparer, earlier, BLOCKS, (width, height), &planes, rooms)?;
     }
     Ok(())
 }
@@ -70,7 +74,7 @@ fn runs(comparer: &mut Comparer, earlier: &mut Earlier, width: usize, all: &[Ran
         };
         let planes = planes_of(plane, at % 8 < 4);
         let height = planes.colours[0].len() / width;
-        in_rooms(comparer, earlier, Kind::EncodingPlaces, (width, height), &planes, around_the_end)?;
+        in_rooms(comparer, earlier, (Kind::EncodingPlaces, Extent::Body), (width, height), &planes, around_the_end)?;
     }
     Ok(())
 }
@@ -85,7 +89,7 @@ fn longest(comparer: &mut Comparer, earlier: &mut Earlier, width: usize) -> Outc
     });
     for planes in with_runs.iter().chain([&noise]) {
         let rooms = |case: Encoding<&[u8]>| few_end_rooms(&case.packing());
-        in_rooms(comparer, earlier, Kind::EncodingBlocks, (width, 1), planes, rooms)?;
+        in_rooms(comparer, earlier, BLOCKS, (width, 1), planes, rooms)?;
     }
     Ok(())
 }

@@ -2,7 +2,8 @@
 
 use crate::bytes;
 use crate::case::MAX_SIDE;
-use original::Encoded;
+use crate::extent::Extent;
+use original::{Answer, Encoded};
 use std::fmt;
 
 /// The bytes of a pixel.
@@ -117,9 +118,10 @@ impl<'a> Sources<&'a [u8]> {
     }
 }
 
-/// The sides, RLE or raw, the sources, and what the destination holds before the call.
+/// A body or a stream, the sides, RLE or raw, the sources, and what the destination holds before the call.
 #[derive(Clone, Copy, Debug, PartialEq, Eq)]
 pub struct Encoding<Bytes> {
+    pub extent: Extent,
     pub width: usize,
     pub height: usize,
     pub rle: bool,
@@ -151,8 +153,13 @@ impl<Bytes: AsRef<[u8]>> Encoding<Bytes> {
     }
 
     pub fn view(&self) -> Encoding<&[u8]> {
-        let Encoding { width, height, rle, .. } = *self;
-        Encoding { width, height, rle, sources: self.sources.view(), before: self.before.as_ref() }
+        let Encoding { extent, width, height, rle, .. } = *self;
+        Encoding { extent, width, height, rle, sources: self.sources.view(), before: self.before.as_ref() }
+    }
+
+    /// How many bytes IronRDP's destination has before the library's: it always begins with the header byte.
+    pub fn bytes_before(&self) -> usize {
+        Extent::Stream.header_len() - self.extent.header_len()
     }
 }
 
@@ -162,6 +169,21 @@ impl Encoding<&[u8]> {
     pub fn with_first_samples(self) -> Self {
         let samples = self.width * self.height;
         Encoding { sources: self.sources.map(|slice, stride| &slice[..samples * stride]), ..self }
+    }
+
+    /// IronRDP's destination before the call.
+    pub fn fill_destination(&self, after: &mut Vec<u8>) {
+        after.clear();
+        after.resize(self.bytes_before(), 0);
+        after.extend_from_slice(self.before);
+    }
+
+    /// The answer to this case that IronRDP's is.
+    pub fn answer(&self, encoded: Encoded) -> Answer {
+        match self.extent {
+            Extent::Body => encoded.body_answer(),
+            Extent::Stream => encoded.answer,
+        }
     }
 
     /// What IronRDP answers. `after` is its destination, which begins with a byte for the header.
@@ -176,9 +198,9 @@ impl Encoding<&[u8]> {
     }
 
     pub fn to_owned(&self) -> OwnedEncoding {
-        let Encoding { width, height, rle, .. } = *self;
+        let Encoding { extent, width, height, rle, .. } = *self;
         let sources = self.sources.map(|slice, _| slice.to_vec());
-        Encoding { width, height, rle, sources, before: self.before.to_vec() }
+        Encoding { extent, width, height, rle, sources, before: self.before.to_vec() }
     }
 }
 
@@ -187,23 +209,25 @@ fn flag(word: &str) -> Option<bool> {
 }
 
 impl OwnedEncoding {
-    /// Reads `pc WIDTH HEIGHT RLE R G B A DST`, where A can be `none`, or `pb WIDTH HEIGHT RLE ALPHA PIXELS DST`.
+    /// Reads `pc WIDTH HEIGHT RLE R G B A DST`, where A can be `none`, or `pb WIDTH HEIGHT RLE ALPHA PIXELS DST`; of a stream `sc` and
+    /// `sb`.
     pub fn parse(text: &str) -> Option<OwnedEncoding> {
         let words: Vec<&str> = text.split_whitespace().collect();
+        let extent = if text.starts_with('s') { Extent::Stream } else { Extent::Body };
         let (width, height, rle, sources, before) = match words[..] {
-            ["pc", width, height, rle, r, g, b, a, before] => {
+            ["pc" | "sc", width, height, rle, r, g, b, a, before] => {
                 let colours = [bytes::parse(r)?, bytes::parse(g)?, bytes::parse(b)?];
                 let alpha = if a == "none" { None } else { Some(bytes::parse(a)?) };
                 (width, height, rle, Sources::Channels { colours, alpha }, before)
             }
-            ["pb", width, height, rle, alpha, pixels, before] => {
+            ["pb" | "sb", width, height, rle, alpha, pixels, before] => {
                 let sources = Sources::Pixels { pixels: bytes::parse(pixels)?, alpha: flag(alpha)? };
                 (width, height, rle, sources, before)
             }
             _ => return None,
         };
         let (width, height) = (width.parse().ok()?, height.parse().ok()?);
-        Some(Encoding { width, height, rle: flag(rle)?, sources, before: bytes::parse(before)? })
+        Some(Encoding { extent, width, height, rle: flag(rle)?, sources, before: bytes::parse(before)? })
     }
 }
 
@@ -211,14 +235,15 @@ impl fmt::Display for OwnedEncoding {
     fn fmt(&self, f: &mut fmt::Formatter<'_>) -> fmt::Result {
         let Encoding { width, height, .. } = *self;
         let (rle, before) = (u8::from(self.rle), bytes::text(&self.before));
+        let extent = if self.extent == Extent::Stream { 's' } else { 'p' };
         match &self.sources {
             Sources::Channels { colours, alpha } => {
                 let [r, g, b] = colours.each_ref().map(|samples| bytes::text(samples));
                 let a = alpha.as_ref().map_or("none".to_owned(), |samples| bytes::text(samples));
-                write!(f, "pc {width} {height} {rle} {r} {g} {b} {a} {before}")
+                write!(f, "{extent}c {width} {height} {rle} {r} {g} {b} {a} {before}")
             }
             Sources::Pixels { pixels, alpha } => {
-                write!(f, "pb {width} {height} {rle} {} {} {before}", u8::from(*alpha), bytes::text(pixels))
+                write!(f, "{extent}b {width} {height} {rle} {} {} {before}", u8::from(*alpha), bytes::text(pixels))
             }
         }
     }
@@ -235,6 +260,8 @@ mod tests {
             "pc 2 1 1 0102 0304 0506 - -",
             "pc 2 1 1 - - - 01 -",
             "pb 2 1 0 1 0102030405060708AABBCC EE*9",
+            "sc 1 1 0 01 02 03 none EE*5",
+            "sb 2 1 0 1 0102030405060708AABBCC EE*9",
         ] {
             assert_eq!(OwnedEncoding::parse(text).unwrap().to_string(), text);
         }

@@ -1,14 +1,17 @@
 //! Compares the packing of one picture.
 
 use crate::check::{answer_text, After, Comparer, Difference, Outcome};
+use crate::encoding::round_trip::Wrong;
 use crate::encoding::{round_trip, Encoding, OwnedEncoding, Sources};
+use crate::extent::Extent;
 use crate::guarded::{Buffer, Side, SIDES};
 use crate::input::{Input, View};
+use crate::stream::Stream;
 use crate::tally::{Kind, Reference};
-use original::{Answer, Definition, Header};
+use original::{Answer, Definition, Encoded, Header};
 
-/// `rdp6_encode_channels_stream` as C declares it: R, G, B, destination, RLE, width, height; bytes written, or minus the
-/// refusal's number.
+/// `rdp6_encode_channels` and `rdp6_stream_encode_channels` as C declares them: R, G, B, destination, RLE, width, height; bytes written,
+/// or minus the refusal's number.
 pub type EncodeChannels = unsafe extern "C" fn(
     *const u8,
     usize,
@@ -43,7 +46,7 @@ pub type EncodeChannelsAlpha = unsafe extern "C" fn(
 /// The same from pixels.
 pub type EncodeBitmap = unsafe extern "C" fn(*const u8, usize, *mut u8, usize, bool, usize, usize) -> i64;
 
-/// The functions of a library that pack pictures.
+/// The functions of a library that pack pictures, into bodies or into streams.
 #[derive(Clone, Copy)]
 pub struct Encoders {
     pub channels: EncodeChannels,
@@ -52,16 +55,18 @@ pub struct Encoders {
     pub bitmap_alpha: EncodeBitmap,
 }
 
-/// What the destination must hold after a call, behind the byte of IronRDP's header, and what it holds.
+/// What the destination must hold after a call, and what it holds.
 #[derive(Default)]
 pub(crate) struct Packed {
+    /// IronRDP's destination, which has so many bytes before the library's.
     wanted: Vec<u8>,
+    bytes_before: usize,
     got: Vec<u8>,
 }
 
 impl Packed {
     fn wanted(&self) -> &[u8] {
-        &self.wanted[1..]
+        &self.wanted[self.bytes_before..]
     }
 
     /// What the destination must hold after the last case that was asked.
@@ -98,7 +103,7 @@ impl Comparer {
     /// The same with the buffers at these sides of their pages only, where both would take too long.
     pub fn compare_encoding_at(&mut self, kind: Kind, case: Encoding<&[u8]>, sides: &[Side]) -> Outcome {
         let wanted = self.ask_encoding(case)?;
-        self.tally.count(kind, Reference::ironrdp_if(case.is_inside()), &wanted);
+        self.tally.count_in(case.extent, kind, Reference::ironrdp_if(case.is_inside()), &wanted);
         self.compare_encoder(case, wanted, sides)
     }
 
@@ -107,20 +112,25 @@ impl Comparer {
         self.compare_encoder(case.view(), wanted, &SIDES)
     }
 
-    /// The answer that is required; `packed.wanted` gets what the destination must hold. Where a source is longer than the picture,
-    /// IronRDP is asked with the samples that are used. The header that IronRDP writes is compared with `record`.
+    /// The answer that is required; `packed` gets what the destination must hold. Where a source is longer than the picture, IronRDP
+    /// is asked with the samples that are used. The header that IronRDP writes is compared with `record`. It writes the header byte
+    /// first; in the library's destination the byte there is unchanged after a refusal.
     pub(crate) fn ask_encoding(&mut self, case: Encoding<&[u8]>) -> Result<Answer, Box<Difference>> {
-        let wanted = &mut self.packed.wanted;
-        wanted.clear();
-        wanted.push(0);
-        wanted.extend_from_slice(case.before);
+        let Packed { wanted, bytes_before, .. } = &mut self.packed;
+        case.fill_destination(wanted);
+        *bytes_before = case.bytes_before();
         if let Some(number) = case.refused_at_entry() {
             return Ok(Answer::Refused(number));
         }
         let asked = if case.is_inside() { case } else { case.with_first_samples() };
         let encoded = asked.by_ironrdp(wanted);
-        if encoded.header == Some(record(case.rle)) {
-            return Ok(encoded.answer);
+        let no_room = wanted.is_empty() && encoded == Encoded { answer: Answer::Refused(12), header: None };
+        if encoded.header == Some(record(case.rle)) || no_room {
+            let answer = case.answer(encoded);
+            if let (Answer::Refused(_), Extent::Stream, Some(first)) = (&answer, case.extent, case.before.first()) {
+                wanted[0] = *first;
+            }
+            return Ok(answer);
         }
         let got = format!("{}, {:?}", encoded.answer, encoded.header);
         let after = || destination(case.before);
@@ -142,16 +152,34 @@ impl Comparer {
         }
     }
 
-    /// What the library wrote must be unpacked to the samples that were packed.
+    /// What the library wrote must be unpacked to the samples that were packed: by IronRDP, and a stream by the library too.
     fn compare_round_trip(&mut self, case: Encoding<&[u8]>, count: usize) -> Outcome {
-        self.tally.unpacked_again += 1;
-        let Some(wrong) = round_trip::wrong(case, &self.packed.got[..count]) else {
+        self.tally.count_unpacked_again(case.extent);
+        // The library's decoder is called with the memory of this comparer, so this is taken out of it.
+        let got = std::mem::take(&mut self.packed.got);
+        let by_ironrdp = round_trip::wrong(case, &got[..count]).map(|wrong| (wrong, "rdp6, unpacked by IronRDP"));
+        let found = by_ironrdp
+            .or_else(|| self.wrong_by_library(case, &got[..count]).map(|wrong| (wrong, "rdp6, unpacked by itself")));
+        self.packed.got = got;
+        let Some((wrong, by)) = found else {
             return Ok(());
         };
         let reason = format!("the {} unpacked again", wrong.name);
         let [wanted_after, got_after] = [wrong.wanted, wrong.got].map(|bytes| After(vec![(wrong.name, bytes)]));
-        let got = ("rdp6, unpacked by IronRDP", wrong.answer.to_string(), got_after);
-        Err(self.unlike(case, reason, Answer::Done(count), wanted_after, got))
+        Err(self.unlike(case, reason, Answer::Done(count), wanted_after, (by, wrong.answer, got_after)))
+    }
+
+    /// What is wrong with a stream of three planes if the library unpacks it.
+    fn wrong_by_library(&mut self, case: Encoding<&[u8]>, packed: &[u8]) -> Option<Wrong> {
+        if case.extent == Extent::Body || case.sources.has_alpha() {
+            return None;
+        }
+        let image = vec![0; 3 * case.width * case.height];
+        let work = if case.rle { &image[..] } else { &[] };
+        let stream = Stream { width: case.width, height: case.height, stream: packed, work, image: &image };
+        let (answer, harm) = self.call_stream_decoder(stream, Side::End);
+        let answer = harm.unwrap_or_else(|| answer_text(answer));
+        round_trip::wrong_image(case, answer, self.afters.got_image().to_vec())
     }
 
     fn unlike(
@@ -176,7 +204,7 @@ impl Comparer {
 
     fn call_channels(&mut self, case: Encoding<&[u8]>, [r, g, b]: [&[u8]; 3], side: Side) -> (i64, Option<String>) {
         let Encoding { width, height, rle, before, .. } = case;
-        let encode = self.library.encoders.channels;
+        let encode = self.library.encoders(case.extent).channels;
         let buffers = [
             Buffer::read("samples of R", r),
             Buffer::read("samples of G", g),
@@ -198,7 +226,7 @@ impl Comparer {
         side: Side,
     ) -> (i64, Option<String>) {
         let Encoding { width, height, rle, before, .. } = case;
-        let encode = self.library.encoders.channels_alpha;
+        let encode = self.library.encoders(case.extent).channels_alpha;
         let buffers = [
             Buffer::read("samples of R", r),
             Buffer::read("samples of G", g),
@@ -215,7 +243,7 @@ impl Comparer {
 
     fn call_bitmap(&mut self, case: Encoding<&[u8]>, pixels: &[u8], alpha: bool, side: Side) -> (i64, Option<String>) {
         let Encoding { width, height, rle, before, .. } = case;
-        let encoders = self.library.encoders;
+        let encoders = self.library.encoders(case.extent);
         let encode = if alpha { encoders.bitmap_alpha } else { encoders.bitmap };
         let buffers = [Buffer::read("pixels", pixels), Buffer::written("destination", before, &mut self.packed.got)];
         let len = pixels.len();

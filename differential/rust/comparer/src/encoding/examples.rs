@@ -2,6 +2,7 @@
 
 use crate::check::{Comparer, Outcome};
 use crate::encoding::OwnedEncoding;
+use crate::extent::Extent;
 use crate::tally::Kind;
 
 /// A case, its answer as a library gives it, and its destination after the call.
@@ -58,8 +59,51 @@ pub const EXAMPLES: [Example; 40] = [
     ("pc 1 1 0 - - - - -", -11, "-"),
 ];
 
-pub fn run(comparer: &mut Comparer) -> Outcome {
-    for (text, _, _) in EXAMPLES {
+/// The same of whole streams: the header byte and that body. The first byte is written last: a refusal leaves it as it was.
+#[rustfmt::skip]
+pub const STREAM_EXAMPLES: [Example; 25] = [
+    // The header byte has the alpha flag false for four planes too.
+    ("sb 1 1 0 0 01020304 EE*6", 5, "2003020100EE"),
+    ("sb 1 1 0 1 01020304 EE*7", 6, "200403020100EE"),
+    ("sb 1 1 1 0 01020304 EE*8", 7, "30100310021001EE"),
+    ("sb 1 1 1 1 01020304 EE*9", 9, "301004100310021001"),
+    ("sc 1 1 0 03 02 01 none EE*5", 5, "2003020100"),
+    ("sc 1 1 0 03 02 01 04 EE*6", 6, "200403020100"),
+    ("sc 1 1 1 03 02 01 none EE*7", 7, "30100310021001"),
+    ("sc 1 1 1 03 02 01 04 EE*9", 9, "301004100310021001"),
+    // A raw stream needs all its room, and changes nothing without it.
+    ("sb 1 1 0 0 01020304 EE*4", -12, "EE*4"),
+    ("sb 1 1 0 1 01020304 EE*5", -12, "EE*5"),
+    ("sb 1 1 0 0 01020304 EE", -12, "EE"),
+    ("sb 1 1 0 0 01020304 -", -12, "-"),
+    // RLE leaves the complete segments before the one that does not fit, from the second byte on.
+    ("sb 1 1 1 0 01020304 EE*6", -12, "EE10031002EE"),
+    ("sb 1 1 1 0 01020304 EE*5", -12, "EE10031002"),
+    ("sb 1 1 1 1 01020304 EE*4", -12, "EE1004EE"),
+    ("sb 1 1 1 0 01020304 EEEE", -12, "EEEE"),
+    ("sb 1 1 1 0 01020304 EE", -12, "EE"),
+    ("sc 1 1 1 03 02 01 04 -", -12, "-"),
+    // Of a longer source the first width times height are used.
+    ("sc 2 1 0 010203 0405 0607 none EE*8", 8, "2001020405060700"),
+    ("sb 1 1 0 0 0102030405060708 EE*5", 5, "2003020100"),
+    // 1 before 2, 2 before 11, 11 before 12, also where there is no room for the header byte.
+    ("sc 0 9000 1 - - - none -", -1, "-"),
+    ("sb 9000 1 0 1 - -", -2, "-"),
+    ("sc 1 1 0 - - - - -", -11, "-"),
+    ("sb 1 1 1 0 010203 -", -11, "-"),
+    ("sb 1 1 1 0 010203 EE*7", -11, "EE*7"),
+];
+
+/// The table of an extent.
+pub fn of(extent: Extent) -> &'static [Example] {
+    match extent {
+        Extent::Body => &EXAMPLES,
+        Extent::Stream => &STREAM_EXAMPLES,
+    }
+}
+
+pub fn run(comparer: &mut Comparer, extent: Extent) -> Outcome {
+    for (text, _, _) in of(extent) {
         let case = OwnedEncoding::parse(text).expect("the table's own text");
         comparer.compare_encoding(Kind::EncodingExamples, case.view())?;
     }
@@ -68,21 +112,28 @@ pub fn run(comparer: &mut Comparer) -> Outcome {
 
 #[cfg(test)]
 mod tests {
-    use super::EXAMPLES;
+    use super::{EXAMPLES, STREAM_EXAMPLES};
     use crate::bytes;
     use crate::encoding::OwnedEncoding;
+    use crate::extent::Extent;
 
-    /// IronRDP inside the domain, and the order of FORMAT 8 outside, give the answers of the table.
+    /// IronRDP inside the domain, and the order of FORMAT 8 outside, give the answers of the table. The first byte of a refused stream is
+    /// not IronRDP's.
     #[test]
     fn examples_have_these_answers() {
-        for (text, answer, after) in EXAMPLES {
+        for (text, answer, after) in EXAMPLES.into_iter().chain(STREAM_EXAMPLES) {
             let case = OwnedEncoding::parse(text).unwrap();
-            let mut after_call = [&[0], &case.before[..]].concat();
+            let (case, mut after_call) = (case.view(), Vec::new());
+            case.fill_destination(&mut after_call);
             let expected = match case.refused_at_entry() {
                 Some(number) => -i64::from(number),
-                None => case.view().with_first_samples().by_ironrdp(&mut after_call).answer.number().unwrap(),
+                None => case.answer(case.with_first_samples().by_ironrdp(&mut after_call)).number().unwrap(),
             };
-            assert_eq!((expected, bytes::text(&after_call[1..])), (answer, after.to_owned()), "{text}");
+            if let (Extent::Stream, true, Some(first)) = (case.extent, expected < 0, case.before.first()) {
+                after_call[0] = *first;
+            }
+            let after_call = bytes::text(&after_call[case.bytes_before()..]);
+            assert_eq!((expected, after_call), (answer, after.to_owned()), "{text}");
         }
     }
 }

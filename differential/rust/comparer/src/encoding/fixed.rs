@@ -4,6 +4,7 @@ use crate::case::MAX_SIDE;
 use crate::check::{Comparer, Outcome};
 use crate::encoding::given::{self, both, given, in_rooms, ALPHAS, FORMS};
 use crate::encoding::{blocks, examples, refused, Encoding, Sources};
+use crate::extent::Extent;
 use crate::guarded::SIDES as BOTH_SIDES;
 use crate::packing::boundary;
 use crate::packing::fixed::TWO_VALUES;
@@ -21,14 +22,23 @@ pub fn run(comparer: &mut Comparer) -> Outcome {
 
 /// All but the largest picture.
 pub fn run_quick(comparer: &mut Comparer) -> Outcome {
-    let earlier = &mut Earlier::new();
-    examples::run(comparer)?;
-    refused::run(comparer, earlier)?;
-    small_pictures(comparer, earlier)?;
-    telling_pictures(comparer, earlier)?;
-    kinds(comparer, earlier)?;
-    long_sides(comparer, earlier)?;
+    run_of(comparer, Extent::Body)?;
     blocks::run(comparer)
+}
+
+/// Streams, without what is about the reading of long rows: that a stream has the same body is seen with other pictures.
+pub fn run_streams(comparer: &mut Comparer) -> Outcome {
+    run_of(comparer, Extent::Stream)
+}
+
+fn run_of(comparer: &mut Comparer, extent: Extent) -> Outcome {
+    let earlier = &mut Earlier::new();
+    examples::run(comparer, extent)?;
+    refused::run(comparer, earlier, extent)?;
+    small_pictures(comparer, earlier, extent)?;
+    telling_pictures(comparer, earlier, extent)?;
+    kinds(comparer, earlier, extent)?;
+    long_sides(comparer, earlier, extent)
 }
 
 /// How many segments' ends a destination is tried around: all of most pictures, some of the longest.
@@ -39,7 +49,7 @@ const FEWER_SEGMENTS: usize = 6;
 fn in_all_rooms(
     comparer: &mut Comparer,
     earlier: &mut Earlier,
-    kind: Kind,
+    kind: (Kind, Extent),
     sides: (usize, usize),
     planes: &Planes,
     segments: usize,
@@ -56,14 +66,14 @@ fn planes_of(samples: &[u8], count: usize) -> Planes {
 }
 
 /// All pictures of up to three pixels over two values, of four planes up to two, with every room.
-fn small_pictures(comparer: &mut Comparer, earlier: &mut Earlier) -> Outcome {
+fn small_pictures(comparer: &mut Comparer, earlier: &mut Earlier, extent: Extent) -> Outcome {
     for (alpha, most) in ALPHAS.into_iter().zip([3, 2]) {
         for count in 1..=most {
             for width in (1..=count).filter(|width| count % width == 0) {
                 let sides = (width, count / width);
                 each_string(&TWO_VALUES, count * (3 + usize::from(alpha)), &mut |samples| {
                     let planes = planes_of(samples, count);
-                    in_all_rooms(comparer, earlier, Kind::EncodingSmall, sides, &planes, SEGMENTS)
+                    in_all_rooms(comparer, earlier, (Kind::EncodingSmall, extent), sides, &planes, SEGMENTS)
                 })?;
             }
         }
@@ -72,7 +82,7 @@ fn small_pictures(comparer: &mut Comparer, earlier: &mut Earlier) -> Outcome {
 }
 
 /// Planes whose packing passes every boundary of the rules, three or four neighbours of them as one picture.
-fn telling_pictures(comparer: &mut Comparer, earlier: &mut Earlier) -> Outcome {
+fn telling_pictures(comparer: &mut Comparer, earlier: &mut Earlier, extent: Extent) -> Outcome {
     let mut planes = boundary::planes();
     planes.sort();
     for (at, same) in planes.chunk_by(|left, right| left.0 == right.0 && left.1 == right.1).enumerate() {
@@ -82,21 +92,22 @@ fn telling_pictures(comparer: &mut Comparer, earlier: &mut Earlier) -> Outcome {
             let mut next = || samples.next().expect("four planes");
             let colours = [next(), next(), next()];
             let planes = Planes { colours, alpha: (at % 2 == 0).then(next) };
-            in_all_rooms(comparer, earlier, Kind::EncodingBoundary, sides, &planes, FEWER_SEGMENTS)?;
+            let kind = (Kind::EncodingBoundary, extent);
+            in_all_rooms(comparer, earlier, kind, sides, &planes, FEWER_SEGMENTS)?;
         }
     }
     Ok(())
 }
 
 /// Planes of every kind at sides around which a segment's counts change: rooms at the end of each segment of each plane.
-fn kinds(comparer: &mut Comparer, earlier: &mut Earlier) -> Outcome {
+fn kinds(comparer: &mut Comparer, earlier: &mut Earlier, extent: Extent) -> Outcome {
     let rng = &mut Rng::new(35);
     for sides in [(4, 2), (5, 5), (15, 1), (16, 2), (17, 3), (32, 1), (33, 2), (47, 1), (48, 2), (64, 1), (65, 3)] {
         for (plane_kind, alpha) in
             PLANE_KINDS.into_iter().flat_map(|plane_kind| ALPHAS.map(|alpha| (plane_kind, alpha)))
         {
             let planes = Planes::with_kinds(rng, given::form(alpha), sides, &[plane_kind]);
-            in_all_rooms(comparer, earlier, Kind::EncodingRooms, sides, &planes, SEGMENTS)?;
+            in_all_rooms(comparer, earlier, (Kind::EncodingRooms, extent), sides, &planes, SEGMENTS)?;
         }
     }
     Ok(())
@@ -104,15 +115,15 @@ fn kinds(comparer: &mut Comparer, earlier: &mut Earlier) -> Outcome {
 
 /// Rows and columns of 8,191 and 8,192: with some rooms, and each source short by one byte. Nine rows have more than 65,536
 /// samples.
-fn long_sides(comparer: &mut Comparer, earlier: &mut Earlier) -> Outcome {
+fn long_sides(comparer: &mut Comparer, earlier: &mut Earlier, extent: Extent) -> Outcome {
     let rng = &mut Rng::new(36);
     for side in [MAX_SIDE - 1, MAX_SIDE] {
         for (sides, alpha) in [(side, 1), (1, side), (side, 2), (side, 9)].into_iter().zip([true, false, false, true]) {
             let planes = Planes::with_kinds(rng, given::form(alpha), sides, &[PlaneKind::Runs, PlaneKind::FlatPage]);
-            in_all_rooms(comparer, earlier, Kind::EncodingLongSides, sides, &planes, FEWER_SEGMENTS)?;
+            in_all_rooms(comparer, earlier, (Kind::EncodingLongSides, extent), sides, &planes, FEWER_SEGMENTS)?;
             for (owned, rle) in both(&planes).iter().flat_map(|owned| FORMS.map(|rle| (owned, rle))) {
                 let short = owned.view().map(|slice, _| &slice[..slice.len() - 1]);
-                given(rle, sides, short).compare_in(comparer, earlier, Kind::EncodingLongSides, 9)?;
+                given(extent, rle, sides, short).compare_in(comparer, earlier, Kind::EncodingLongSides, 9)?;
             }
         }
     }
@@ -132,7 +143,7 @@ fn largest(comparer: &mut Comparer) -> Outcome {
     let (pixels, before) = (long(4 * width * height), long(3 * width * height + 1));
     let sources = Sources::Pixels { pixels: &pixels[..], alpha: false };
     for (room, side) in [before.len(), before.len() - 1].into_iter().zip(BOTH_SIDES) {
-        let case = Encoding { width, height, rle: false, sources, before: &before[..room] };
+        let case = Encoding { before: &before[..room], ..given(Extent::Body, false, (width, height), sources) };
         comparer.compare_encoding_at(Kind::EncodingLargest, case, &[side])?;
     }
     Ok(())

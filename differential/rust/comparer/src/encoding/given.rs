@@ -3,6 +3,7 @@
 use crate::check::{Comparer, Outcome};
 use crate::encoding::case::STRIDE;
 use crate::encoding::{Encoding, Sources};
+use crate::extent::Extent;
 use crate::picture::{Form, Planes};
 use crate::planes::{longest_packing, segment_starts, Earlier};
 use crate::tally::Kind;
@@ -42,13 +43,13 @@ pub fn form(alpha: bool) -> Form {
 pub fn in_rooms<Rooms: IntoIterator<Item = usize>>(
     comparer: &mut Comparer,
     earlier: &mut Earlier,
-    kind: Kind,
+    (kind, extent): (Kind, Extent),
     sides: (usize, usize),
     planes: &Planes,
     rooms: impl Fn(Encoding<&[u8]>) -> Rooms,
 ) -> Outcome {
     for (sources, rle) in both(planes).iter().flat_map(|sources| FORMS.map(|rle| (sources, rle))) {
-        let case = given(rle, sides, sources.view());
+        let case = given(extent, rle, sides, sources.view());
         for room in rooms(case) {
             case.compare_in(comparer, earlier, kind, room)?;
         }
@@ -57,22 +58,27 @@ pub fn in_rooms<Rooms: IntoIterator<Item = usize>>(
 }
 
 /// What is given to an encoder without a destination.
-pub fn given(rle: bool, (width, height): (usize, usize), sources: Sources<&[u8]>) -> Encoding<&[u8]> {
-    Encoding { width, height, rle, sources, before: &[] }
+pub fn given(extent: Extent, rle: bool, (width, height): (usize, usize), sources: Sources<&[u8]>) -> Encoding<&[u8]> {
+    Encoding { extent, width, height, rle, sources, before: &[] }
 }
 
 impl Encoding<&[u8]> {
-    /// What IronRDP makes of the first width times height samples if there is room. Nothing is refused at entry.
+    /// The body that IronRDP makes of the first width times height samples if there is room. Nothing is refused at entry.
     pub fn packing(self) -> Vec<u8> {
         let mut after = vec![0; 2 + self.sources.planes() * longest_packing(self.width, self.height)];
         let encoded = self.with_first_samples().by_ironrdp(&mut after);
-        let count = encoded.answer.number().expect("complete planes with room");
+        let count = encoded.body_answer().number().expect("complete planes with room");
         after.drain(1..).take(usize::try_from(count).expect("a count")).collect()
     }
 
-    /// The same case with a destination of so many bytes, compared.
+    /// The same case with a destination that has so many bytes for the body, compared; a stream for whose body there is none is also
+    /// compared with a destination that is empty.
     pub fn compare_in(self, comparer: &mut Comparer, earlier: &mut Earlier, kind: Kind, room: usize) -> Outcome {
-        comparer.compare_encoding(kind, Encoding { before: earlier.bytes(room), ..self })
+        if self.extent == Extent::Stream && room == 0 {
+            comparer.compare_encoding(kind, Encoding { before: &[], ..self })?;
+        }
+        let before = earlier.bytes(room + self.extent.header_len());
+        comparer.compare_encoding(kind, Encoding { before, ..self })
     }
 
     /// With the rooms around each limit: for RLE the end of each segment of each plane, up to so many of them; for a raw picture

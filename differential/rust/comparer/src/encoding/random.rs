@@ -4,6 +4,7 @@ use crate::check::{Comparer, Outcome};
 use crate::encoding::case::STRIDE;
 use crate::encoding::given::{self, channels, given, pixels};
 use crate::encoding::{Encoding, Sources};
+use crate::extent::Extent;
 use crate::picture::Planes;
 use crate::planes::{self, segment_starts, Earlier};
 use crate::rng::Rng;
@@ -11,6 +12,7 @@ use crate::tally::Kind;
 
 /// Random cases from one seed.
 pub struct Random {
+    extent: Extent,
     rng: Rng,
     earlier: Earlier,
 }
@@ -32,8 +34,8 @@ impl Ends {
 }
 
 impl Random {
-    pub fn new(seed: u64) -> Self {
-        Random { rng: Rng::new(seed), earlier: Earlier::new() }
+    pub fn new(seed: u64, extent: Extent) -> Self {
+        Random { extent, rng: Rng::new(seed), earlier: Earlier::new() }
     }
 
     /// Some cases of one kind.
@@ -59,7 +61,7 @@ impl Random {
     fn picture(&mut self, comparer: &mut Comparer) -> Outcome {
         let (width, height) = planes::sides(&mut self.rng);
         let owned = self.sources(width, height);
-        let case = given(!self.rng.once_in(4), (width, height), owned.view());
+        let case = given(self.extent, !self.rng.once_in(4), (width, height), owned.view());
         let ends = Ends::of(case);
         for room in [ends.len, ends.len + 1, ends.len + self.rng.within(2, 5000)] {
             case.compare_in(comparer, &mut self.earlier, Kind::RandomEncodings, room)?;
@@ -90,8 +92,8 @@ impl Random {
                 1 => ends.len + self.rng.below(3),
                 _ => ends.len + self.rng.within(3, 400),
             };
-            let case = Encoding { sources: sources.view(), before: self.earlier.bytes(room), ..case };
-            comparer.compare_encoding(Kind::RandomEncodingSources, case)?;
+            let case = Encoding { sources: sources.view(), ..case };
+            case.compare_in(comparer, &mut self.earlier, Kind::RandomEncodingSources, room)?;
         }
         Ok(())
     }
@@ -121,7 +123,7 @@ impl Random {
                 _ => Sources::Pixels { pixels: &r[..len / STRIDE * STRIDE], alpha },
             };
             let room = self.rng.within(0, 600);
-            let case = given(self.rng.once_in(2), sides, sources);
+            let case = given(self.extent, self.rng.once_in(2), sides, sources);
             case.compare_in(comparer, &mut self.earlier, Kind::RandomEncodingSides, room)?;
         }
         Ok(())

@@ -6,16 +6,17 @@ use crate::check::{Comparer, Outcome};
 use crate::encoding::case::STRIDE;
 use crate::encoding::given::{self, both, given, ALPHAS, FORMS};
 use crate::encoding::{Encoding, Sources};
+use crate::extent::Extent;
 use crate::picture::Planes;
 use crate::planes::Earlier;
 use crate::rng::Rng;
 use crate::tally::Kind;
 
-pub fn run(comparer: &mut Comparer, earlier: &mut Earlier) -> Outcome {
-    table_of_sides(comparer, earlier)?;
-    several_at_once(comparer, earlier)?;
-    sources(comparer, earlier)?;
-    pixel_slices(comparer, earlier)
+pub fn run(comparer: &mut Comparer, earlier: &mut Earlier, extent: Extent) -> Outcome {
+    table_of_sides(comparer, earlier, extent)?;
+    several_at_once(comparer, earlier, extent)?;
+    sources(comparer, earlier, extent)?;
+    pixel_slices(comparer, earlier, extent)
 }
 
 /// Sources of all four entries, each with so many bytes of these.
@@ -31,13 +32,13 @@ fn of_every_entry(noise: &[u8], len: usize) -> [Sources<&[u8]>; 4] {
 
 /// Sides of which at least one is refused, or that need more than any source has: also those whose product does not fit a word,
 /// or wraps to a small number.
-fn table_of_sides(comparer: &mut Comparer, earlier: &mut Earlier) -> Outcome {
+fn table_of_sides(comparer: &mut Comparer, earlier: &mut Earlier, extent: Extent) -> Outcome {
     let noise = Rng::new(31).bytes(5000);
     for sides in BOUNDARY_SIDES.into_iter().flat_map(|width| BOUNDARY_SIDES.map(|height| (width, height))) {
         for len in [0, 1, 3, 4, 9, 64, 4096] {
             for sources in of_every_entry(&noise, len) {
                 for (rle, room) in FORMS.into_iter().flat_map(|rle| [0, 1, 20, 200].map(|room| (rle, room))) {
-                    given(rle, sides, sources).compare_in(comparer, earlier, Kind::EncodingTable, room)?;
+                    given(extent, rle, sides, sources).compare_in(comparer, earlier, Kind::EncodingTable, room)?;
                 }
             }
         }
@@ -46,19 +47,19 @@ fn table_of_sides(comparer: &mut Comparer, earlier: &mut Earlier) -> Outcome {
 }
 
 /// Sides, each source and the destination right or wrong, in all combinations.
-fn several_at_once(comparer: &mut Comparer, earlier: &mut Earlier) -> Outcome {
+fn several_at_once(comparer: &mut Comparer, earlier: &mut Earlier, extent: Extent) -> Outcome {
     let rng = &mut Rng::new(32);
     for alpha in ALPHAS {
         let planes = Planes::random(rng, given::form(alpha), 2, 3);
         for (owned, rle) in both(&planes).iter().flat_map(|owned| FORMS.map(|rle| (owned, rle))) {
-            let room = given(rle, (2, 3), owned.view()).packing().len();
+            let room = given(extent, rle, (2, 3), owned.view()).packing().len();
             let slices = owned.slices();
             for which in 0..1 << slices.len() {
                 let mut sources = owned.view();
                 for (at, (slice, _)) in slices.iter().enumerate().filter(|(at, _)| which >> at & 1 == 1) {
                     sources = sources.with(at, &slice[..slice.len() - 1]);
                 }
-                in_all_sides(comparer, earlier, given(rle, (2, 3), sources), &[room, room - 1, 0])?;
+                in_all_sides(comparer, earlier, given(extent, rle, (2, 3), sources), &[room, room - 1, 0])?;
             }
         }
     }
@@ -83,7 +84,7 @@ const SIDES: [(usize, usize); 11] =
     [(1, 1), (2, 1), (1, 2), (3, 2), (2, 5), (17, 1), (16, 3), (48, 2), (63, 2), (64, 1), (67, 1)];
 
 /// Sources that are short, exact and long, one of them and all of them, with room and without.
-fn sources(comparer: &mut Comparer, earlier: &mut Earlier) -> Outcome {
+fn sources(comparer: &mut Comparer, earlier: &mut Earlier, extent: Extent) -> Outcome {
     let rng = &mut Rng::new(33);
     for (sides, alpha) in SIDES.into_iter().flat_map(|sides| ALPHAS.map(|alpha| (sides, alpha))) {
         let planes = Planes::random(rng, given::form(alpha), sides.0, sides.1);
@@ -97,7 +98,7 @@ fn sources(comparer: &mut Comparer, earlier: &mut Earlier) -> Outcome {
             tried.extend(with_other_lengths(exact.view(), &longer, sides.0 * sides.1));
             tried.extend(with_other_lengths(longer.view(), &longer, sides.0 * sides.1));
             for rle in FORMS {
-                with_rooms(comparer, earlier, given(rle, sides, exact.view()), &tried)?;
+                with_rooms(comparer, earlier, given(extent, rle, sides, exact.view()), &tried)?;
             }
         }
     }
@@ -137,7 +138,7 @@ fn with_rooms(
 }
 
 /// Slices of pixels of every length from two short of the picture to two beyond it: a part of a pixel counts for nothing.
-fn pixel_slices(comparer: &mut Comparer, earlier: &mut Earlier) -> Outcome {
+fn pixel_slices(comparer: &mut Comparer, earlier: &mut Earlier, extent: Extent) -> Outcome {
     let rng = &mut Rng::new(34);
     for ((width, height), alpha) in SIDES.into_iter().flat_map(|sides| ALPHAS.map(|alpha| (sides, alpha))) {
         let complete = STRIDE * width * height;
@@ -146,9 +147,9 @@ fn pixel_slices(comparer: &mut Comparer, earlier: &mut Earlier) -> Outcome {
             let sources = Sources::Pixels { pixels: &noise[..len], alpha };
             for rle in FORMS {
                 let exact = Sources::Pixels { pixels: &noise[..complete], alpha };
-                let needed = given(rle, (width, height), exact).packing().len();
+                let needed = given(extent, rle, (width, height), exact).packing().len();
                 for room in [0, needed - 1, needed, needed + 9] {
-                    let case = given(rle, (width, height), sources);
+                    let case = given(extent, rle, (width, height), sources);
                     case.compare_in(comparer, earlier, Kind::EncodingPixels, room)?;
                 }
             }

@@ -1,40 +1,59 @@
 //! What was packed is unpacked by IronRDP: R, G and B by its picture decoder, A as the plane that comes first.
 
 use crate::encoding::{Channel, Encoding};
+use crate::extent::Extent;
 use original::{Answer, Definition, Header};
 
 /// A plane that is not unpacked to what was packed.
 pub struct Wrong {
     pub name: &'static str,
-    pub answer: Answer,
+    /// In words.
+    pub answer: String,
     pub wanted: Vec<u8>,
     pub got: Vec<u8>,
 }
 
-/// What is wrong with a body, if anything. The header here has the alpha flag of the planes: with the record of FORMAT 7.5, whose flag
-/// is false, four planes cannot be unpacked.
-pub fn wrong(case: Encoding<&[u8]>, body: &[u8]) -> Option<Wrong> {
+/// What is wrong with a body or a stream, if anything. A stream of three planes is unpacked as it is. Otherwise the header here has the
+/// alpha flag of the planes: with the record of FORMAT 7.5, whose flag is false, four planes cannot be unpacked.
+pub fn wrong(case: Encoding<&[u8]>, packed: &[u8]) -> Option<Wrong> {
     let Encoding { width, height, rle, sources, .. } = case;
-    let [r, g, b, a] =
-        [Channel::R, Channel::G, Channel::B, Channel::A].map(|of| sources.samples(of).take(width * height));
-    let wanted: Vec<u8> = r.zip(g).zip(b).flat_map(|((r, g), b)| [r, g, b]).collect();
-    let header = Header { rle, alpha: sources.has_alpha(), definition: Definition::Argb };
+    let body = &packed[case.extent.header_len()..];
     let (mut work, mut got) = (Vec::new(), Vec::new());
-    let answer = original::decode(header, body, &mut work, &mut got, width, height);
-    if got != wanted {
-        return Some(Wrong { name: "image", answer, wanted, got });
+    let answer = if case.extent == Extent::Stream && !sources.has_alpha() {
+        original::stream_decode(packed, &mut work, &mut got, width, height)
+    } else {
+        let header = Header { rle, alpha: sources.has_alpha(), definition: Definition::Argb };
+        original::decode(header, body, &mut work, &mut got, width, height)
+    };
+    let wrong = wrong_image(case, answer.to_string(), got);
+    if sources.has_alpha() {
+        return wrong.or_else(|| wrong_alpha(case, body));
     }
-    if !sources.has_alpha() {
-        return None;
-    }
-    let wanted: Vec<u8> = a.collect();
+    wrong
+}
+
+/// The first width times height samples of a channel.
+fn samples<'a>(case: Encoding<&'a [u8]>, of: Channel) -> impl Iterator<Item = u8> + 'a {
+    case.sources.samples(of).take(case.width * case.height)
+}
+
+/// What is wrong with an image, if anything, that came with this answer.
+pub fn wrong_image(case: Encoding<&[u8]>, answer: String, got: Vec<u8>) -> Option<Wrong> {
+    let [r, g, b] = [Channel::R, Channel::G, Channel::B].map(|of| samples(case, of));
+    let wanted: Vec<u8> = r.zip(g).zip(b).flat_map(|((r, g), b)| [r, g, b]).collect();
+    (got != wanted).then_some(Wrong { name: "image", answer, wanted, got })
+}
+
+fn wrong_alpha(case: Encoding<&[u8]>, body: &[u8]) -> Option<Wrong> {
+    let (width, height) = (case.width, case.height);
+    let wanted: Vec<u8> = samples(case, Channel::A).collect();
     let mut got = body.iter().copied().take(width * height).collect::<Vec<u8>>();
     let mut answer = Answer::Done(got.len());
-    if rle {
+    if case.rle {
         got = vec![0; width * height];
         answer = original::unpack(body, &mut got, width, height);
     }
-    (got != wanted).then_some(Wrong { name: "alpha plane", answer, wanted, got })
+    (got != wanted).then_some(Wrong { name: "alpha plane", answer: answer.to_string(), wanted, got })
 }
 
 #[cfg(test)]
@@ -62,5 +81,11 @@ mod tests {
         assert_eq!(named(three, "04030201"), Some("image"));
         assert_eq!(named(four, "0403020100"), None);
         assert_eq!(named(four, "0303020100"), Some("alpha plane"));
+        let [three, four] = ["sb 1 1 0 0 01020304 -", "sb 1 1 1 1 01020304 -"];
+        assert_eq!(named(three, "2003020100"), None);
+        assert_eq!(named(three, "2103020100"), Some("image"));
+        assert_eq!(named(three, "20030201"), Some("image"));
+        assert_eq!(named(four, "301004100310021001"), None);
+        assert_eq!(named(four, "301005100310021001"), Some("alpha plane"));
     }
 }

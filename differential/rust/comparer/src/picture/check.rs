@@ -68,17 +68,35 @@ impl Afters {
         self.wanted.after()
     }
 
-    /// Asks IronRDP. It gets the entire work area and may return a shorter one: the library must leave the bytes behind that
-    /// unchanged. Its image is what it appends: the library must leave the bytes behind that unchanged too.
-    fn ask_ironrdp(&mut self, case: Picture<'_>) -> Answer {
+    /// The answer to a case with this work area and image that is refused outside the domain, or that IronRDP is asked; `wanted` gets what
+    /// the two must hold.
+    ///
+    /// IronRDP gets the entire work area and may return a shorter one: the library must leave the bytes behind that unchanged. Its image is
+    /// what it appends: the library must leave the bytes behind that unchanged too.
+    pub(crate) fn ask(
+        &mut self,
+        (work, image): (&[u8], &[u8]),
+        refused_outside: Option<u8>,
+        by_ironrdp: impl FnOnce(&mut Vec<u8>, &mut Vec<u8>) -> Answer,
+    ) -> Answer {
+        self.wanted.work.clear();
+        self.wanted.work.extend_from_slice(work);
         self.made.clear();
-        let answer = case.by_ironrdp(&mut self.wanted.work, &mut self.made).expect("a form that IronRDP has");
+        let answer = match refused_outside {
+            Some(number) => Answer::Refused(number),
+            None => by_ironrdp(&mut self.wanted.work, &mut self.made),
+        };
         let kept = self.wanted.work.len();
-        self.wanted.work.extend_from_slice(case.work.get(kept..).unwrap_or(&[]));
+        self.wanted.work.extend_from_slice(work.get(kept..).unwrap_or(&[]));
         self.wanted.image.clear();
         self.wanted.image.extend_from_slice(&self.made);
-        self.wanted.image.extend_from_slice(case.image.get(self.made.len()..).unwrap_or(&[]));
+        self.wanted.image.extend_from_slice(image.get(self.made.len()..).unwrap_or(&[]));
         answer
+    }
+
+    /// The image that the library made last.
+    pub(crate) fn got_image(&self) -> &[u8] {
+        &self.got.image
     }
 
     /// What differs, if anything, once it is known whether the answers are the same.
@@ -106,35 +124,39 @@ impl Comparer {
         let reference = Reference::ironrdp_if(case.refused_outside().is_none());
         let wanted = self.ask_picture(case);
         self.tally.count(kind, reference, &wanted);
-        self.compare_decoder(case, wanted, sides)
+        self.compare_picture_decoder(case, wanted, sides)
     }
 
     pub(crate) fn check_picture(&mut self, case: &OwnedPicture) -> Outcome {
         let wanted = self.ask_picture(case.view());
-        self.compare_decoder(case.view(), wanted, &SIDES)
+        self.compare_picture_decoder(case.view(), wanted, &SIDES)
     }
 
     /// The answer that is required; `afters.wanted` gets what the buffers must hold.
     pub(crate) fn ask_picture(&mut self, case: Picture<'_>) -> Answer {
-        let wanted = &mut self.afters.wanted;
-        wanted.work.clear();
-        wanted.work.extend_from_slice(case.work);
-        match case.refused_outside() {
-            None => self.afters.ask_ironrdp(case),
-            Some(number) => {
-                wanted.image.clear();
-                wanted.image.extend_from_slice(case.image);
-                Answer::Refused(number)
-            }
-        }
+        self.afters.ask((case.work, case.image), case.refused_outside(), |work, image| {
+            case.by_ironrdp(work, image).expect("a form that IronRDP has")
+        })
     }
 
-    fn compare_decoder(&mut self, case: Picture<'_>, wanted: Answer, sides: &[Side]) -> Outcome {
+    fn compare_picture_decoder(&mut self, case: Picture<'_>, wanted: Answer, sides: &[Side]) -> Outcome {
+        self.compare_decoder(View::Picture(case), wanted, sides, |comparer, side| comparer.call_decoder(case, side))
+    }
+
+    /// Calls a decoder with the buffers at these sides of their pages, and compares its answer with `wanted` and its buffers with
+    /// `afters.wanted`.
+    pub(crate) fn compare_decoder(
+        &mut self,
+        case: View<'_>,
+        wanted: Answer,
+        sides: &[Side],
+        call: impl Fn(&mut Comparer, Side) -> (i64, Option<String>),
+    ) -> Outcome {
         for &side in sides {
-            let (got, harm) = self.call_decoder(case, side);
+            let (got, harm) = call(self, side);
             if let Some(reason) = harm.or_else(|| self.afters.fault(wanted.number() == Some(got))) {
                 return Err(Box::new(Difference {
-                    case: Input::Picture(case.to_owned()),
+                    case: case.to_owned(),
                     reason,
                     wanted,
                     wanted_after: self.afters.wanted.after(),
@@ -150,14 +172,10 @@ impl Comparer {
     fn call_decoder(&mut self, case: Picture<'_>, side: Side) -> (i64, Option<String>) {
         let Picture { width, height, form, body, work, image } = case;
         let decode = self.library.pictures.decode;
-        let buffers = [
-            Buffer::read("body", body),
-            Buffer::written("work area", work, &mut self.afters.got.work),
-            Buffer::written("image", image, &mut self.afters.got.image),
-        ];
         let [body_len, work_len, image_len] = [body.len(), work.len(), image.len()];
+        let buffers = (Buffer::read("body", body), work, image);
         // SAFETY: all three buffers are valid during the call. That it stays inside them is tested.
-        self.memory.call(View::Picture(case), side, buffers, |[body, work, image]| unsafe {
+        self.call_on_afters(View::Picture(case), side, buffers, |[body, work, image]| unsafe {
             decode(
                 form.rle,
                 form.alpha,
@@ -176,6 +194,20 @@ impl Comparer {
         })
     }
 
+    /// Calls a function with a source, a work area and an image at this side of their pages; `afters.got` has the last two after it.
+    pub(crate) fn call_on_afters(
+        &mut self,
+        case: View<'_>,
+        side: Side,
+        (source, work, image): (Buffer<'_>, &[u8], &[u8]),
+        function: impl FnOnce([*mut u8; 3]) -> i64,
+    ) -> (i64, Option<String>) {
+        let got = &mut self.afters.got;
+        let work = Buffer::written("work area", work, &mut got.work);
+        let image = Buffer::written("image", image, &mut got.image);
+        self.memory.call(case, side, [source, work, image], function)
+    }
+
     /// Compares both sizes, and counts the case.
     pub fn compare_sizes(&mut self, kind: Kind, case: Sizes) -> Outcome {
         self.tally.count(kind, Reference::Format, &Answer::Done(case.work()));
@@ -192,17 +224,22 @@ impl Comparer {
         let of_image = ("the size of the image", case.image(), image);
         for (name, wanted, got) in [of_work, of_image] {
             if wanted != got {
-                return Err(Box::new(Difference {
-                    case: Input::Sizes(*case),
-                    reason: name.to_owned(),
-                    wanted: Answer::Done(wanted),
-                    wanted_after: After(Vec::new()),
-                    side: "rdp6",
-                    got: format!("{got} bytes"),
-                    got_after: After(Vec::new()),
-                }));
+                return Err(other_size(Input::Sizes(*case), name.to_owned(), wanted, got));
             }
         }
         Ok(())
     }
+}
+
+/// The difference of a function that answers a size.
+pub(crate) fn other_size(case: Input, reason: String, wanted: usize, got: usize) -> Box<Difference> {
+    Box::new(Difference {
+        case,
+        reason,
+        wanted: Answer::Done(wanted),
+        wanted_after: After(Vec::new()),
+        side: "rdp6",
+        got: format!("{got} bytes"),
+        got_after: After(Vec::new()),
+    })
 }

@@ -3,6 +3,7 @@
 
 use crate::case::MAX_SIDE;
 use crate::check::{Comparer, Outcome};
+use crate::extent::Extent;
 use crate::guarded::SIDES as BOTH_SIDES;
 use crate::picture::planes::{Befores, Sent};
 use crate::picture::refused::{few_forms, FLAGS};
@@ -23,9 +24,14 @@ pub fn run(comparer: &mut Comparer) -> Outcome {
 
 /// All but the largest pictures.
 pub fn run_quick(comparer: &mut Comparer) -> Outcome {
-    let befores = &mut Befores::new();
+    let befores = &mut Befores::new(Extent::Body);
     examples::run(comparer)?;
     sizes::run(comparer)?;
+    run_of(comparer, befores)
+}
+
+/// The pictures that are compared as bodies and as streams.
+pub fn run_of(comparer: &mut Comparer, befores: &mut Befores) -> Outcome {
     refused::run(comparer, befores)?;
     small_sides(comparer, befores)?;
     all_widths(comparer, befores)?;

@@ -2,9 +2,12 @@
 
 use crate::case::MAX_SIDE;
 use crate::check::{Comparer, Outcome};
+use crate::extent::Extent;
 use crate::picture::{Form, OwnedPicture, Picture};
 use crate::planes::{self, Earlier, PlaneKind, PLANE_KINDS};
 use crate::rng::Rng;
+use crate::stream::header::joined;
+use crate::stream::Stream;
 use crate::tally::Kind;
 
 /// The planes of a picture in the order of its body.
@@ -110,21 +113,25 @@ impl<'a> Sent<'a> {
     }
 }
 
-/// What work areas and images hold before a call: never one constant, and different from call to call.
+/// What work areas and images hold before a call: never one constant, and different from call to call. And whether a picture is passed
+/// as a body or as a stream.
 pub struct Befores {
     work: Earlier,
     image: Earlier,
+    extent: Extent,
+    /// The bits of the next header byte that are ignored, and the next pad byte.
+    ignored: u8,
 }
 
 impl Befores {
-    pub fn new() -> Self {
+    pub fn new(extent: Extent) -> Self {
         let mut image = Earlier::new();
         // A step ahead of the other, or both would hold the same.
         image.bytes(1);
-        Befores { work: Earlier::new(), image }
+        Befores { work: Earlier::new(), image, extent, ignored: 0 }
     }
 
-    /// Compares a picture whose work area and image have these lengths.
+    /// Compares a picture whose work area and image have these lengths. A form that has no header byte is not a stream's.
     pub fn compare(
         &mut self,
         comparer: &mut Comparer,
@@ -133,8 +140,28 @@ impl Befores {
         (work, image): (usize, usize),
     ) -> Outcome {
         let Sent { width, height, form, body } = sent;
+        if self.extent == Extent::Stream {
+            self.ignored = self.ignored.wrapping_add(0x4B);
+            return match joined(form, self.ignored, body, self.ignored) {
+                Some(stream) => self.compare_stream(comparer, kind, (width, height), &stream, (work, image)),
+                None => Ok(()),
+            };
+        }
         let (work, image) = (self.work.bytes(work), self.image.bytes(image));
         comparer.compare_picture(kind, Picture { width, height, form, body, work, image })
+    }
+
+    /// Compares a stream whose work area and image have these lengths.
+    pub fn compare_stream(
+        &mut self,
+        comparer: &mut Comparer,
+        kind: Kind,
+        (width, height): (usize, usize),
+        stream: &[u8],
+        (work, image): (usize, usize),
+    ) -> Outcome {
+        let (work, image) = (self.work.bytes(work), self.image.bytes(image));
+        comparer.compare_stream(kind, Stream { width, height, stream, work, image })
     }
 
     /// The same with slices that have what they need, or more of each by these.
@@ -147,11 +174,5 @@ impl Befores {
     ) -> Outcome {
         let needs = sent.needs();
         self.compare(comparer, kind, sent, (needs.0 + work, needs.1 + image))
-    }
-}
-
-impl Default for Befores {
-    fn default() -> Self {
-        Self::new()
     }
 }

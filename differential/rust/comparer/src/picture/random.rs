@@ -1,6 +1,7 @@
 //! The part that goes on until the time is over.
 
 use crate::check::{Comparer, Outcome};
+use crate::extent::Extent;
 use crate::picture::case::{ARGB, AYCOCG};
 use crate::picture::planes::{Befores, Sent};
 use crate::picture::{Form, Planes};
@@ -18,8 +19,8 @@ pub struct Random {
 }
 
 impl Random {
-    pub fn new(seed: u64) -> Self {
-        Random { rng: Rng::new(seed), befores: Befores::new() }
+    pub fn new(seed: u64, extent: Extent) -> Self {
+        Random { rng: Rng::new(seed), befores: Befores::new(extent) }
     }
 
     /// Some cases of one kind.

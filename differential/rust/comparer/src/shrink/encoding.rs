@@ -23,7 +23,7 @@ const LONG: usize = 1 << 16;
 
 /// The length of the packing, if nothing is refused before it.
 fn packed_len(case: &OwnedEncoding) -> Option<usize> {
-    case.refused_at_entry().is_none().then(|| case.view().packing().len())
+    case.refused_at_entry().is_none().then(|| case.extent.header_len() + case.view().packing().len())
 }
 
 /// The changed case: with what the destination had beyond the packing, or lacked, and with the destination as it is.

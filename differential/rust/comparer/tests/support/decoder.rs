@@ -7,6 +7,7 @@ use comparer::picture::check::Pictures;
 use comparer::picture::Form;
 
 /// A buffer of a call. `read` and `write` do not check the index: a planted mistake may be out of bounds, as it would be in a library.
+#[derive(Clone, Copy)]
 pub struct Slice {
     pub at: *mut u8,
     pub len: usize,

@@ -6,11 +6,28 @@ pub mod decoder;
 pub mod encoder;
 pub mod packer;
 pub mod stored;
+pub mod stream;
 
 use comparer::report::report;
 use comparer::shrink::{shrink_within, LIMIT};
 use comparer::{encoding, packing, unpacking};
-use comparer::{Case, Comparer, Difference, Function, Library, Outcome};
+use comparer::{Case, Comparer, Difference, Extent, Function, Library, Outcome};
+
+/// A test of a function that does some steps of a trait differently. The file that uses it has `SEARCH` and the library of such a
+/// function, and the test names the smallest input that shows the mistake.
+#[allow(unused_macros)]
+macro_rules! wrong_function {
+    ($steps:ident, $library:ident, $name:ident, $smallest:literal, { $($other:tt)* }) => {
+        #[test]
+        fn $name() {
+            struct Wrong;
+            impl $steps for Wrong {
+                $($other)*
+            }
+            SEARCH.finds($library::<Wrong>(), $smallest);
+        }
+    };
+}
 
 /// The buffers of one call. Indices are not checked: a planted mistake may be out of bounds, as it would be in a library.
 pub struct Slices {
@@ -109,6 +126,7 @@ pub const RIGHT_LIBRARY: Library = Library {
     pack: exported::<RightPack>,
     pictures: decoder::pictures::<decoder::Right>(),
     encoders: encoder::encoders::<encoder::Right>(),
+    streams: stream::streams::<stream::RightDecoder, stream::RightEncoder>(),
 };
 
 /// The difference from the sample above, of a delta code.
@@ -179,17 +197,15 @@ pub const fn packing_search(fixed: fn(&mut Comparer) -> Outcome) -> Search {
     }
 }
 
-/// The same for packing pictures.
+/// The same for packing pictures into bodies.
 pub const fn encoding_search(fixed: fn(&mut Comparer) -> Outcome) -> Search {
-    Search {
-        fixed,
-        random: |seed| {
-            let mut random = encoding::random::Random::new(seed);
-            Box::new(move |comparer| random.round(comparer))
-        },
-        rounds: 300,
-        alone: 5_000,
-    }
+    Search { fixed, random: |seed| encoding_rounds(seed, Extent::Body), rounds: 300, alone: 5_000 }
+}
+
+/// Rounds of random pictures to pack.
+pub fn encoding_rounds(seed: u64, extent: Extent) -> Round {
+    let mut random = encoding::random::Random::new(seed, extent);
+    Box::new(move |comparer| random.round(comparer))
 }
 
 /// The unpacker beside a right packer.
