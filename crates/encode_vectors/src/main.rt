@@ -8,18 +8,26 @@ use encode::ResultKind;
 use encode::SourceKind;
 
 fn main() {
-    replay(SourceKind::Channels, ResultKind::Body, b"examples-channels.txt");
-    replay(SourceKind::Pixels, ResultKind::Body, b"examples-bitmap.txt");
-    replay(SourceKind::Channels, ResultKind::Stream, b"examples-stream-channels.txt");
-    replay(SourceKind::Pixels, ResultKind::Stream, b"examples-stream-bitmap.txt");
-    replay(SourceKind::Channels, ResultKind::Body, b"refusals-channels.txt");
-    replay(SourceKind::Pixels, ResultKind::Body, b"refusals-bitmap.txt");
-    replay(SourceKind::Channels, ResultKind::Stream, b"refusals-stream-channels.txt");
-    replay(SourceKind::Pixels, ResultKind::Stream, b"refusals-stream-bitmap.txt");
-    replay(SourceKind::Channels, ResultKind::Body, b"channels-pack.txt");
-    replay(SourceKind::Pixels, ResultKind::Body, b"bitmap-pack.txt");
-    replay(SourceKind::Channels, ResultKind::Stream, b"stream-channels-pack.txt");
-    replay(SourceKind::Pixels, ResultKind::Stream, b"stream-bitmap-pack.txt");
+    replay_bodies(SourceKind::Channels, b"examples-channels.txt");
+    replay_bodies(SourceKind::Pixels, b"examples-bitmap.txt");
+    replay_streams(SourceKind::Channels, b"examples-stream-channels.txt");
+    replay_streams(SourceKind::Pixels, b"examples-stream-bitmap.txt");
+    replay_bodies(SourceKind::Channels, b"refusals-channels.txt");
+    replay_bodies(SourceKind::Pixels, b"refusals-bitmap.txt");
+    replay_streams(SourceKind::Channels, b"refusals-stream-channels.txt");
+    replay_streams(SourceKind::Pixels, b"refusals-stream-bitmap.txt");
+    replay_bodies(SourceKind::Channels, b"channels-pack.txt");
+    replay_bodies(SourceKind::Pixels, b"bitmap-pack.txt");
+    replay_streams(SourceKind::Channels, b"stream-channels-pack.txt");
+    replay_streams(SourceKind::Pixels, b"stream-bitmap-pack.txt");
+}
+
+fn replay_bodies(source: SourceKind, path: &[u8]) {
+    replay(source, ResultKind::Body, path);
+}
+
+fn replay_streams(source: SourceKind, path: &[u8]) {
+    replay(source, ResultKind::Stream, path);
 }
 
 // Replays the cases of the file at `path`, which are all of one kind.
