@@ -28,50 +28,47 @@ pub(crate) enum SourceKind {
     Stream,
 }
 
-// The indexes of the numbers before the answer, and how many there are: of both kinds, of a body, of a stream.
+// The numbers before the answer come in three groups. These are the indexes of the first group, the sides, and how many they are.
 const WIDTH: usize = 0;
 
 const HEIGHT: usize = 1;
 
-const RLE: usize = 2;
+const SIDES_COUNT: usize = 2;
 
-const ALPHA: usize = 3;
+// The same for the header record, which only the line of a body has.
+const RLE: usize = 0;
 
-const DEFINITION: usize = 4;
+const ALPHA: usize = 1;
 
-const LEVEL: usize = 5;
+const DEFINITION: usize = 2;
 
-const SUBSAMPLED: usize = 6;
+const LEVEL: usize = 3;
 
-const BODY_WORK_ROOM: usize = 7;
+const SUBSAMPLED: usize = 4;
 
-const BODY_IMAGE_ROOM: usize = 8;
+const HEADER_COUNT: usize = 5;
 
-const BODY_COUNT: usize = 9;
+// The same for the sizes. Only the line of a stream has the last of them.
+const WORK_ROOM: usize = 0;
 
-const STREAM_WORK_ROOM: usize = 2;
+const IMAGE_ROOM: usize = 1;
 
-const STREAM_IMAGE_ROOM: usize = 3;
+const WORK_SIZE: usize = 2;
 
-const WORK_SIZE: usize = 4;
+const BODY_SIZES_COUNT: usize = 2;
 
-const STREAM_COUNT: usize = 5;
+const STREAM_SIZES_COUNT: usize = 3;
 
-// What a case unpacks: a body with its header record, or a stream.
-enum Source {
-    Body(BitmapStreamHeader),
-    Stream,
-}
-
-// What the calls of a case return. The line of a body has no minimum size of the work area: it is 0, expected and returned.
+// What the calls of a case return. For a body, whose line has no minimum size of the work area, it is 0.
 struct Returned {
     work_size: usize,
     answer: Answer,
 }
 
-// The numbers of a case, and the index of the field of its body or stream.
+// The numbers of a case, and the index of the field of its body or stream. The header record is not used for a stream.
 struct Case {
-    source: Source,
+    kind: SourceKind,
+    header: BitmapStreamHeader,
     width: usize,
     height: usize,
     work_room: usize,
@@ -85,14 +82,8 @@ enum ParsedCase {
     Malformed,
 }
 
-// The numbers of a case that differ by its kind.
-enum ParsedSource {
-    Value {
-        source: Source,
-        work_room: usize,
-        image_room: usize,
-        work_size: usize,
-    },
+enum ParsedHeader {
+    Value(BitmapStreamHeader),
     Malformed,
 }
 
@@ -150,83 +141,66 @@ fn replay_with_buffers(
     compare(case, got, line, next, work, image)
 }
 
-// Reads the numbers of a case.
+// Reads the numbers of a case. Those that its line does not have are 0.
 fn parse_case(kind: SourceKind, line: &[u8]) -> ParsedCase {
-    let mut numbers = [0usize; MAX_NUMBERS];
-    let start = read::next_numbers(line, 0, count_before_answer(kind), &mut numbers);
+    let mut sides = [0usize; MAX_NUMBERS];
+    let mut form = [0usize; MAX_NUMBERS];
+    let mut sizes = [0usize; MAX_NUMBERS];
+    let after_sides = read::next_numbers(line, 0, SIDES_COUNT, &mut sides);
+    let after_form = read::next_numbers(line, after_sides, header_count(kind), &mut form);
+    let start = read::next_numbers(line, after_form, sizes_count(kind), &mut sizes);
     let ParsedAnswer::Value { answer, next } = read::next_answer(line, start) else {
         return ParsedCase::Malformed;
     };
-    let ParsedSource::Value {
-        source,
-        work_room,
-        image_room,
-        work_size,
-    } = source_of(kind, numbers)
-    else {
+    let ParsedHeader::Value(header) = header_of(form) else {
         return ParsedCase::Malformed;
     };
     ParsedCase::Value(Case {
-        source,
-        width: numbers[WIDTH],
-        height: numbers[HEIGHT],
-        work_room,
-        image_room,
-        expected: Returned { work_size, answer },
+        kind,
+        header,
+        width: sides[WIDTH],
+        height: sides[HEIGHT],
+        work_room: sizes[WORK_ROOM],
+        image_room: sizes[IMAGE_ROOM],
+        expected: Returned {
+            work_size: sizes[WORK_SIZE],
+            answer,
+        },
         next,
     })
 }
 
-// How many numbers a line has before the answer.
-fn count_before_answer(kind: SourceKind) -> usize {
+// How many numbers of a line are its header record.
+fn header_count(kind: SourceKind) -> usize {
     match kind {
-        SourceKind::Body => BODY_COUNT,
-        SourceKind::Stream => STREAM_COUNT,
+        SourceKind::Body => HEADER_COUNT,
+        SourceKind::Stream => 0,
     }
 }
 
-// The numbers that differ by the kind.
-fn source_of(kind: SourceKind, numbers: [usize; MAX_NUMBERS]) -> ParsedSource {
+// How many are its sizes.
+fn sizes_count(kind: SourceKind) -> usize {
     match kind {
-        SourceKind::Body => body_source(numbers),
-        SourceKind::Stream => ParsedSource::Value {
-            source: Source::Stream,
-            work_room: numbers[STREAM_WORK_ROOM],
-            image_room: numbers[STREAM_IMAGE_ROOM],
-            work_size: numbers[WORK_SIZE],
-        },
+        SourceKind::Body => BODY_SIZES_COUNT,
+        SourceKind::Stream => STREAM_SIZES_COUNT,
     }
 }
 
-// The same of a body.
-fn body_source(numbers: [usize; MAX_NUMBERS]) -> ParsedSource {
-    if !read::are_flags(
-        numbers[RLE],
-        numbers[ALPHA],
-        numbers[DEFINITION],
-        numbers[SUBSAMPLED],
-    ) {
-        return ParsedSource::Malformed;
+// The header record of the numbers.
+fn header_of(form: [usize; MAX_NUMBERS]) -> ParsedHeader {
+    if !read::are_flags(form[RLE], form[ALPHA], form[DEFINITION], form[SUBSAMPLED]) {
+        return ParsedHeader::Malformed;
     }
-    let level = numbers[LEVEL];
+    let level = form[LEVEL];
     if 255 < level {
-        return ParsedSource::Malformed;
+        return ParsedHeader::Malformed;
     }
-    let color_plane_definition = definition_of(
-        numbers[DEFINITION],
-        level as u8,
-        numbers[SUBSAMPLED],
-    );
-    ParsedSource::Value {
-        source: Source::Body(BitmapStreamHeader {
-            enable_rle_compression: numbers[RLE] == 1,
-            use_alpha: numbers[ALPHA] == 1,
-            color_plane_definition,
-        }),
-        work_room: numbers[BODY_WORK_ROOM],
-        image_room: numbers[BODY_IMAGE_ROOM],
-        work_size: 0,
-    }
+    let color_plane_definition = definition_of(form[DEFINITION], level as u8, form[SUBSAMPLED]);
+    ParsedHeader::Value(BitmapStreamHeader {
+        enable_rle_compression: form[RLE] == 1,
+        use_alpha: form[ALPHA] == 1,
+        color_plane_definition,
+    })
 }
 
 fn definition_of(definition: usize, level: u8, subsampled: usize) -> ColorPlaneDefinition {
@@ -243,38 +217,30 @@ fn definition_of(definition: usize, level: u8, subsampled: usize) -> ColorPlaneD
 fn call(case: Case, bytes: &[u8], work: &mut [u8], image: &mut [u8]) -> Returned {
     guarded::prepare(work);
     guarded::prepare(image);
-    let source = case.source;
-    match source {
-        Source::Body(header) => call_with_body(case, header, bytes, work, image),
-        Source::Stream => call_with_stream(case, bytes, work, image),
+    Returned {
+        work_size: work_size(case, bytes),
+        answer: answer_of_decoded(decode(case, bytes, work, image)),
     }
 }
 
-fn call_with_body(
-    case: Case,
-    header: BitmapStreamHeader,
-    body: &[u8],
-    work: &mut [u8],
-    image: &mut [u8],
-) -> Returned {
-    let decoded = bitmap_decoder::decode(header, body, work, image, case.width, case.height);
-    Returned {
-        work_size: 0,
-        answer: answer_of_decoded(decoded),
+fn work_size(case: Case, bytes: &[u8]) -> usize {
+    let kind = case.kind;
+    match kind {
+        SourceKind::Body => 0,
+        SourceKind::Stream => bitmap_stream::stream_work_size(bytes, case.width, case.height),
     }
 }
 
-fn call_with_stream(case: Case, stream: &[u8], work: &mut [u8], image: &mut [u8]) -> Returned {
-    let decoded = bitmap_stream::decode_bitmap_stream_to_rgb24(
-        stream,
-        work,
-        image,
-        case.width,
-        case.height,
-    );
-    Returned {
-        work_size: bitmap_stream::stream_work_size(stream, case.width, case.height),
-        answer: answer_of_decoded(decoded),
+fn decode(case: Case, bytes: &[u8], work: &mut [u8], image: &mut [u8]) -> Decoded {
+    let kind = case.kind;
+    let header = case.header;
+    let width = case.width;
+    let height = case.height;
+    match kind {
+        SourceKind::Body => bitmap_decoder::decode(header, bytes, work, image, width, height),
+        SourceKind::Stream => {
+            bitmap_stream::decode_bitmap_stream_to_rgb24(bytes, work, image, width, height)
+        }
     }
 }
 
