@@ -3,7 +3,7 @@
 //     WIDTH HEIGHT WORKROOM IMAGEROOM WORKSIZE ANSWER STREAM WORK-AFTER IMAGE-AFTER
 // RLE, ALPHA and SUBSAMPLED are 0 or 1, LEVEL is 0 to 255. DEFINITION is 0 for ARGB, which ignores LEVEL and SUBSAMPLED, and 1 for
 // AYCoCg. WORKROOM and IMAGEROOM are the lengths of the work area and of the image. WORKSIZE is the minimum size of the work area,
-// which a second function computes. ANSWER is the number of bytes written, or the negative of a refusal's number. WORK-AFTER and
+// which `stream_work_size` returns. ANSWER is the number of bytes written, or the negative of a refusal's number. WORK-AFTER and
 // IMAGE-AFTER have all bytes of both after the call. Bytes are written as in a plane's line.
 use bitmap_format::BitmapStreamHeader;
 use bitmap_format::ColorPlaneDefinition;
@@ -59,7 +59,7 @@ const BODY_SIZES_COUNT: usize = 2;
 
 const STREAM_SIZES_COUNT: usize = 3;
 
-// What the calls of a case return. For a body, whose line has no minimum size of the work area, it is 0.
+// What the calls of a case return. The minimum size of the work area is 0 for a body, whose line does not have it.
 struct Returned {
     work_size: usize,
     answer: Answer,
@@ -170,7 +170,7 @@ fn parse_case(kind: SourceKind, line: &[u8]) -> ParsedCase {
     })
 }
 
-// How many numbers of a line are its header record.
+// How many numbers a line has for the header record.
 fn header_count(kind: SourceKind) -> usize {
     match kind {
         SourceKind::Body => HEADER_COUNT,
@@ -178,7 +178,7 @@ fn header_count(kind: SourceKind) -> usize {
     }
 }
 
-// How many are its sizes.
+// How many it has for the sizes.
 fn sizes_count(kind: SourceKind) -> usize {
     match kind {
         SourceKind::Body => BODY_SIZES_COUNT,
@@ -285,7 +285,7 @@ fn compare(
     result_of(expected, got, bytes_equal, guards_unchanged)
 }
 
-// The result of a case. It has room for one pair of answers: for the minimum sizes if these differ.
+// The result of a case. Only one pair of answers is reported: the minimum sizes of the work area if they differ.
 fn result_of(
     expected: Returned,
     got: Returned,
