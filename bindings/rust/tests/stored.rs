@@ -3,12 +3,13 @@
 
 mod support;
 
+use std::fmt::Debug;
 use std::fs;
 use std::path::Path;
 
 use rdp6::{
-    compress_8bpp_plane, decode, decompress_8bpp_plane, BgrAChannels, BitmapStreamDecoder, BitmapStreamEncoder,
-    Encoded, Refusal,
+    compress_8bpp_plane, decode, decompress_8bpp_plane, stream_decode, stream_work_size, BgrAChannels,
+    BitmapStreamDecoder, BitmapStreamEncoder, Encoded, Refusal,
 };
 use support::{argb, aycocg, hex, Guarded};
 
@@ -97,12 +98,20 @@ fn check_picture(decoder: &mut BitmapStreamDecoder, case: &[&str]) {
     assert_eq!(decode(header, &body, work.slice(), image.slice(), width, height), expected, "{case:?}");
     assert_eq!(work.after(), hex(case[11]), "{case:?}");
     assert_eq!(image.after(), hex(case[12]), "{case:?}");
-    // The decoder allocates both buffers, so that it never returns 5 or 6.
+    check_decoder(case, expected, case[12], |dst| decoder.decode_body_to_rgb24(header, &body, dst, width, height));
+}
+
+/// Checks a method of the decoder, which appends the image to `dst`. It allocates both buffers, so that it never returns 5 or 6.
+fn check_decoder(
+    case: &[&str],
+    expected: Result<usize, Refusal>,
+    image_after: &str,
+    decode: impl FnOnce(&mut Vec<u8>) -> Result<(), Refusal>,
+) {
     if !matches!(expected, Err(Refusal::ShortWork | Refusal::ShortImage)) {
         let mut dst = vec![0x77];
-        let result = decoder.decode_body_to_rgb24(header, &body, &mut dst, width, height);
-        assert_eq!(result, expected.map(|_| ()), "{case:?}");
-        assert_eq!(dst[1..], hex(case[12])[..expected.unwrap_or(0)], "{case:?}");
+        assert_eq!(decode(&mut dst), expected.map(|_| ()), "{case:?}");
+        assert_eq!(dst[1..], hex(image_after)[..expected.unwrap_or(0)], "{case:?}");
     }
 }
 
@@ -114,10 +123,47 @@ fn pictures_unpacked() {
     }
 }
 
-/// The expected answer of packing: ANSWER SENTRLE SENTALPHA SENTDEFINITION.
+/// WIDTH HEIGHT WORKROOM IMAGEROOM WORKSIZE ANSWER STREAM WORK-AFTER IMAGE-AFTER
+fn check_stream(decoder: &mut BitmapStreamDecoder, case: &[&str]) {
+    let (width, height, expected, stream) = (number(case[0]), number(case[1]), answer(case[5]), hex(case[6]));
+    let (mut work, mut image) = (Guarded::filled(0xEE, number(case[2])), Guarded::filled(0xEE, number(case[3])));
+    assert_eq!(stream_work_size(&stream, width, height), number(case[4]), "{case:?}");
+    assert_eq!(stream_decode(&stream, work.slice(), image.slice(), width, height), expected, "{case:?}");
+    assert_eq!(work.after(), hex(case[7]), "{case:?}");
+    assert_eq!(image.after(), hex(case[8]), "{case:?}");
+    check_decoder(case, expected, case[8], |dst| decoder.decode_bitmap_stream_to_rgb24(&stream, dst, width, height));
+}
+
+#[test]
+fn streams_unpacked() {
+    let mut decoder = BitmapStreamDecoder::default();
+    for file in ["stream-unpack.txt", "examples-stream.txt", "refusals-stream.txt"] {
+        for_each_case("picture_vectors", file, |case| check_stream(&mut decoder, case));
+    }
+}
+
+/// The expected answer of packing a body: ANSWER SENTRLE SENTALPHA SENTDEFINITION.
 fn encoded(fields: &[&str]) -> Result<Encoded, Refusal> {
     assert_eq!(fields[3], "0", "the definition to send is ARGB");
     answer(fields[0]).map(|bytes| Encoded { bytes, header: argb(flag(fields[1]), flag(fields[2])) })
+}
+
+/// The fields R G B A.
+fn channels(fields: &[&str]) -> [Vec<u8>; 4] {
+    [0, 1, 2, 3].map(|i| hex(fields[i]))
+}
+
+/// WIDTH HEIGHT RLE ALPHA ROOM: `pack` gets an encoder, the destination, RLE and ALPHA.
+fn check_packed<T: Debug + PartialEq>(
+    case: &[&str],
+    expected: Result<T, Refusal>,
+    after: &str,
+    pack: impl FnOnce(&mut BitmapStreamEncoder, &mut [u8], bool, bool) -> Result<T, Refusal>,
+) {
+    let mut encoder = BitmapStreamEncoder::new(number(case[0]), number(case[1]));
+    let mut dst = Guarded::filled(0xEE, number(case[4]));
+    assert_eq!(pack(&mut encoder, dst.slice(), flag(case[2]), flag(case[3])), expected, "{case:?}");
+    assert_eq!(dst.after(), hex(after), "{case:?}");
 }
 
 /// WIDTH HEIGHT RLE ALPHA ROOM ANSWER SENTRLE SENTALPHA SENTDEFINITION R G B A AFTER
@@ -125,16 +171,25 @@ fn encoded(fields: &[&str]) -> Result<Encoded, Refusal> {
 fn channels_packed() {
     for file in ["channels-pack.txt", "examples-channels.txt", "refusals-channels.txt"] {
         for_each_case("encode_vectors", file, |case| {
-            let mut encoder = BitmapStreamEncoder::new(number(case[0]), number(case[1]));
-            let (rle, mut dst) = (flag(case[2]), Guarded::filled(0xEE, number(case[4])));
-            let (r, g, b) = (hex(case[9]), hex(case[10]), hex(case[11]));
-            let result = if flag(case[3]) {
-                encoder.encode_channels_stream_alpha((r, g, b, hex(case[12])), dst.slice(), rle)
-            } else {
-                encoder.encode_channels_stream((r, g, b), dst.slice(), rle)
-            };
-            assert_eq!(result, encoded(&case[5..9]), "{case:?}");
-            assert_eq!(dst.after(), hex(case[13]), "{case:?}");
+            let [r, g, b, a] = channels(&case[9..13]);
+            check_packed(case, encoded(&case[5..9]), case[13], |encoder, dst, rle, alpha| match alpha {
+                true => encoder.encode_channels_body_alpha((r, g, b, a), dst, rle),
+                false => encoder.encode_channels_body((r, g, b), dst, rle),
+            });
+        });
+    }
+}
+
+/// WIDTH HEIGHT RLE ALPHA ROOM ANSWER R G B A AFTER
+#[test]
+fn channels_packed_to_streams() {
+    for file in ["stream-channels-pack.txt", "examples-stream-channels.txt", "refusals-stream-channels.txt"] {
+        for_each_case("encode_vectors", file, |case| {
+            let [r, g, b, a] = channels(&case[6..10]);
+            check_packed(case, answer(case[5]), case[10], |encoder, dst, rle, alpha| match alpha {
+                true => encoder.encode_channels_stream_alpha((r, g, b, a), dst, rle),
+                false => encoder.encode_channels_stream((r, g, b), dst, rle),
+            });
         });
     }
 }
@@ -144,16 +199,25 @@ fn channels_packed() {
 fn pixels_packed() {
     for file in ["bitmap-pack.txt", "examples-bitmap.txt", "refusals-bitmap.txt"] {
         for_each_case("encode_vectors", file, |case| {
-            let mut encoder = BitmapStreamEncoder::new(number(case[0]), number(case[1]));
-            let (rle, mut dst) = (flag(case[2]), Guarded::filled(0xEE, number(case[4])));
             let pixels = hex(case[9]);
-            let result = if flag(case[3]) {
-                encoder.encode_bitmap_alpha::<BgrAChannels>(&pixels, dst.slice(), rle)
-            } else {
-                encoder.encode_bitmap::<BgrAChannels>(&pixels, dst.slice(), rle)
-            };
-            assert_eq!(result, encoded(&case[5..9]), "{case:?}");
-            assert_eq!(dst.after(), hex(case[10]), "{case:?}");
+            check_packed(case, encoded(&case[5..9]), case[10], |encoder, dst, rle, alpha| match alpha {
+                true => encoder.encode_bitmap_body_alpha::<BgrAChannels>(&pixels, dst, rle),
+                false => encoder.encode_bitmap_body::<BgrAChannels>(&pixels, dst, rle),
+            });
+        });
+    }
+}
+
+/// WIDTH HEIGHT RLE ALPHA ROOM ANSWER PIXELS AFTER
+#[test]
+fn pixels_packed_to_streams() {
+    for file in ["stream-bitmap-pack.txt", "examples-stream-bitmap.txt", "refusals-stream-bitmap.txt"] {
+        for_each_case("encode_vectors", file, |case| {
+            let pixels = hex(case[6]);
+            check_packed(case, answer(case[5]), case[7], |encoder, dst, rle, alpha| match alpha {
+                true => encoder.encode_bitmap_alpha::<BgrAChannels>(&pixels, dst, rle),
+                false => encoder.encode_bitmap::<BgrAChannels>(&pixels, dst, rle),
+            });
         });
     }
 }

@@ -1,10 +1,13 @@
-// Replays one case of packing a picture, from its channels or from its pixels. The case is one line:
+// Replays one case of packing a picture, from its channels or from its pixels, into a body or into a whole stream. The case is one
+// line:
 //     WIDTH HEIGHT RLE ALPHA ROOM ANSWER SENTRLE SENTALPHA SENTDEFINITION R G B A AFTER
 //     WIDTH HEIGHT RLE ALPHA ROOM ANSWER SENTRLE SENTALPHA SENTDEFINITION PIXELS AFTER
+//     WIDTH HEIGHT RLE ALPHA ROOM ANSWER R G B A AFTER
+//     WIDTH HEIGHT RLE ALPHA ROOM ANSWER PIXELS AFTER
 // RLE is 0 or 1. ALPHA is 1 for the function that packs alpha; if it is 0, A is a hyphen. ROOM is the length of the destination.
 // ANSWER is the number of bytes written, or the negative of a refusal's number. AFTER has all bytes of the destination after the
-// call. SENTRLE, SENTALPHA and SENTDEFINITION are the returned header record (FORMAT 7.5), 0 or 1 each; a SENTDEFINITION of 0 is
-// ARGB. A refusal returns no header record, and they are ignored. Bytes are written as in a plane's line.
+// call. SENTRLE, SENTALPHA and SENTDEFINITION are the header record returned with a body (FORMAT 7.5), 0 or 1 each; a SENTDEFINITION
+// of 0 is ARGB. A refusal returns no header record, and they are ignored. Bytes are written as in a plane's line.
 use bitmap_format::BitmapStreamHeader;
 use bitmap_format::ColorPlaneDefinition;
 use bitmap_format::Encoded;
@@ -18,6 +21,7 @@ use case_lines::read::ParsedAnswer;
 use case_lines::report;
 use case_lines::report::Answer;
 use case_lines::report::LineResult;
+use rle_format::Packed;
 ghost use Prim.Native.Nat.{_+_, _≤_};
 ghost use lib.ListN.{length};
 
@@ -25,6 +29,12 @@ ghost use lib.ListN.{length};
 pub(crate) enum SourceKind {
     Channels,
     Pixels,
+}
+
+// What it is packed into. This, too, is the same for all cases of a file.
+pub(crate) enum ResultKind {
+    Body,
+    Stream,
 }
 
 // The indexes of the numbers before the answer, and how many there are.
@@ -40,16 +50,16 @@ const ROOM: usize = 4;
 
 const COUNT_BEFORE_ANSWER: usize = 5;
 
-// The same for the numbers after it.
+// The same for the numbers after it, which only the line of a body has.
 const SENT_RLE: usize = 0;
 
 const SENT_ALPHA: usize = 1;
 
 const SENT_DEFINITION: usize = 2;
 
-const COUNT_AFTER_ANSWER: usize = 3;
+const SENT_COUNT: usize = 3;
 
-// The header record that a call should return.
+// The header record that a call should return. It is not used for a stream.
 struct ExpectedHeader {
     rle: bool,
     alpha: bool,
@@ -59,6 +69,7 @@ struct ExpectedHeader {
 // The numbers of a case, and the index of its first source field.
 struct Case {
     source: SourceKind,
+    result: ResultKind,
     width: usize,
     height: usize,
     rle: bool,
@@ -72,6 +83,12 @@ struct Case {
 enum ParsedCase {
     Value(Case),
     Malformed,
+}
+
+// What a call returned: its answer, and whether the header record, if there is one, is that of the line.
+struct Returned {
+    answer: Answer,
+    header_equal: bool,
 }
 
 // How many bytes a field has, repeats included, and the index after it.
@@ -90,8 +107,8 @@ struct SourceSizes {
 }
 
 // Replays the case of a line.
-pub(crate) fn replay(source: SourceKind, line: &[u8]) -> LineResult {
-    let ParsedCase::Value(case) = parse_case(source, line) else {
+pub(crate) fn replay(source: SourceKind, result: ResultKind, line: &[u8]) -> LineResult {
+    let ParsedCase::Value(case) = parse_case(source, result, line) else {
         return LineResult::Malformed;
     };
     let mut r = guarded::new_array();
@@ -147,14 +164,14 @@ fn replay_with_buffers(
 }
 
 // Reads the numbers of a case.
-fn parse_case(source: SourceKind, line: &[u8]) -> ParsedCase {
+fn parse_case(source: SourceKind, result: ResultKind, line: &[u8]) -> ParsedCase {
     let mut numbers = [0usize; MAX_NUMBERS];
     let mut sent = [0usize; MAX_NUMBERS];
     let start = read::next_numbers(line, 0, COUNT_BEFORE_ANSWER, &mut numbers);
     let ParsedAnswer::Value { answer, next } = read::next_answer(line, start) else {
         return ParsedCase::Malformed;
     };
-    let end = read::next_numbers(line, next, COUNT_AFTER_ANSWER, &mut sent);
+    let end = read::next_numbers(line, next, count_after_answer(result), &mut sent);
     if !read::are_flags(
         numbers[RLE],
         numbers[ALPHA],
@@ -168,6 +185,7 @@ fn parse_case(source: SourceKind, line: &[u8]) -> ParsedCase {
     }
     ParsedCase::Value(Case {
         source,
+        result,
         width: numbers[WIDTH],
         height: numbers[HEIGHT],
         rle: numbers[RLE] == 1,
@@ -181,6 +199,14 @@ fn parse_case(source: SourceKind, line: &[u8]) -> ParsedCase {
         },
         next: end,
     })
+}
+
+// How many numbers a line has after the answer.
+fn count_after_answer(result: ResultKind) -> usize {
+    match result {
+        ResultKind::Body => SENT_COUNT,
+        ResultKind::Stream => 0,
+    }
 }
 
 // Reads the source fields.
@@ -252,7 +278,7 @@ fn run(
 ) -> LineResult
     requires { ⌜ length (now after) + 32 ≤ length (now dst) ⌝ }
 {
-    let encoded = call(
+    let returned = call(
         case,
         r,
         g,
@@ -262,19 +288,18 @@ fn run(
     );
     let comparison = guarded::compare_slice(dst, after);
     let expected = case.answer;
-    let got = answer_of_encoded(encoded);
-    let header_equal = has_expected_header(case, encoded);
+    let got = returned.answer;
     report::case_result(
         expected,
         got,
-        header_equal,
+        returned.header_equal,
         comparison.bytes_equal,
         comparison.guards_unchanged,
     )
 }
 
 // Makes the call of a case.
-fn call(case: Case, r: &[u8], g: &[u8], b: &[u8], a: &[u8], dst: &mut [u8]) -> Encoded {
+fn call(case: Case, r: &[u8], g: &[u8], b: &[u8], a: &[u8], dst: &mut [u8]) -> Returned {
     guarded::prepare(dst);
     let source = case.source;
     match source {
@@ -290,50 +315,108 @@ fn call_with_channels(
     b: &[u8],
     a: &[u8],
     dst: &mut [u8],
+) -> Returned {
+    let result = case.result;
+    match result {
+        ResultKind::Body => returned_with_body(case, pack_channels_body(case, r, g, b, a, dst)),
+        ResultKind::Stream => returned_with_stream(pack_channels_stream(case, r, g, b, a, dst)),
+    }
+}
+
+fn call_with_pixels(case: Case, pixels: &[u8], dst: &mut [u8]) -> Returned {
+    let result = case.result;
+    match result {
+        ResultKind::Body => returned_with_body(case, pack_pixels_body(case, pixels, dst)),
+        ResultKind::Stream => returned_with_stream(pack_pixels_stream(case, pixels, dst)),
+    }
+}
+
+fn pack_channels_body(
+    case: Case,
+    r: &[u8],
+    g: &[u8],
+    b: &[u8],
+    a: &[u8],
+    dst: &mut [u8],
 ) -> Encoded {
+    let rle = case.rle;
+    let width = case.width;
+    let height = case.height;
     if case.alpha {
-        return bitmap_encoder::encode_channels_body_alpha(
-            r,
-            g,
-            b,
-            a,
-            dst,
-            case.rle,
-            case.width,
-            case.height,
-        );
+        return bitmap_encoder::encode_channels_body_alpha(r, g, b, a, dst, rle, width, height);
     }
-    bitmap_encoder::encode_channels_body(r, g, b, dst, case.rle, case.width, case.height)
+    bitmap_encoder::encode_channels_body(r, g, b, dst, rle, width, height)
 }
 
-fn call_with_pixels(case: Case, pixels: &[u8], dst: &mut [u8]) -> Encoded {
+fn pack_channels_stream(
+    case: Case,
+    r: &[u8],
+    g: &[u8],
+    b: &[u8],
+    a: &[u8],
+    dst: &mut [u8],
+) -> Packed {
+    let rle = case.rle;
+    let width = case.width;
+    let height = case.height;
     if case.alpha {
-        return bitmap_encoder::encode_bitmap_body_alpha(
-            pixels,
-            dst,
-            case.rle,
-            case.width,
-            case.height,
-        );
+        return bitmap_stream::encode_channels_stream_alpha(r, g, b, a, dst, rle, width, height);
     }
-    bitmap_encoder::encode_bitmap_body(pixels, dst, case.rle, case.width, case.height)
+    bitmap_stream::encode_channels_stream(r, g, b, dst, rle, width, height)
 }
 
-fn answer_of_encoded(encoded: Encoded) -> Answer {
+fn pack_pixels_body(case: Case, pixels: &[u8], dst: &mut [u8]) -> Encoded {
+    let rle = case.rle;
+    let width = case.width;
+    let height = case.height;
+    if case.alpha {
+        return bitmap_encoder::encode_bitmap_body_alpha(pixels, dst, rle, width, height);
+    }
+    bitmap_encoder::encode_bitmap_body(pixels, dst, rle, width, height)
+}
+
+fn pack_pixels_stream(case: Case, pixels: &[u8], dst: &mut [u8]) -> Packed {
+    let rle = case.rle;
+    let width = case.width;
+    let height = case.height;
+    if case.alpha {
+        return bitmap_stream::encode_bitmap_alpha(pixels, dst, rle, width, height);
+    }
+    bitmap_stream::encode_bitmap(pixels, dst, rle, width, height)
+}
+
+// What the packer of a body returned. A refusal returns no header record.
+fn returned_with_body(case: Case, encoded: Encoded) -> Returned {
     match encoded {
-        Encoded::Written { bytes, header: _ } => Answer {
-            refused: false,
-            number: bytes,
+        Encoded::Written { bytes, header } => Returned {
+            answer: written(bytes),
+            header_equal: is_header_equal(case.header, header),
         },
-        Encoded::Refused(refusal) => report::answer_of_refusal(refusal),
+        Encoded::Refused(refusal) => Returned {
+            answer: report::answer_of_refusal(refusal),
+            header_equal: true,
+        },
     }
 }
 
-// Whether the returned header record is that of the line. A refusal returns none.
-fn has_expected_header(case: Case, encoded: Encoded) -> bool {
-    match encoded {
-        Encoded::Written { bytes: _, header } => is_header_equal(case.header, header),
-        Encoded::Refused(_) => true,
+// The same for the packer of a stream, which never returns a header record.
+fn returned_with_stream(packed: Packed) -> Returned {
+    match packed {
+        Packed::Written(bytes) => Returned {
+            answer: written(bytes),
+            header_equal: true,
+        },
+        Packed::Refused(refusal) => Returned {
+            answer: report::answer_of_refusal(refusal),
+            header_equal: true,
+        },
+    }
+}
+
+fn written(number: usize) -> Answer {
+    Answer {
+        refused: false,
+        number,
     }
 }
 

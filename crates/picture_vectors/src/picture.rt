@@ -1,9 +1,10 @@
-// Replays one case of unpacking a picture. The case is one line:
+// Replays one case of unpacking a picture, from its body or from a whole stream. The case is one line:
 //     WIDTH HEIGHT RLE ALPHA DEFINITION LEVEL SUBSAMPLED WORKROOM IMAGEROOM ANSWER BODY WORK-AFTER IMAGE-AFTER
+//     WIDTH HEIGHT WORKROOM IMAGEROOM WORKSIZE ANSWER STREAM WORK-AFTER IMAGE-AFTER
 // RLE, ALPHA and SUBSAMPLED are 0 or 1, LEVEL is 0 to 255. DEFINITION is 0 for ARGB, which ignores LEVEL and SUBSAMPLED, and 1 for
-// AYCoCg. WORKROOM and IMAGEROOM are the lengths of the work area and of the image. ANSWER is the number of bytes written, or the
-// negative of a refusal's number. WORK-AFTER and IMAGE-AFTER have all bytes of both after the call. Bytes are written as in a
-// plane's line.
+// AYCoCg. WORKROOM and IMAGEROOM are the lengths of the work area and of the image. WORKSIZE is the minimum size of the work area,
+// which `stream_work_size` returns. ANSWER is the number of bytes written, or the negative of a refusal's number. WORK-AFTER and
+// IMAGE-AFTER have all bytes of both after the call. Bytes are written as in a plane's line.
 use bitmap_format::BitmapStreamHeader;
 use bitmap_format::ColorPlaneDefinition;
 use bitmap_format::Decoded;
@@ -21,33 +22,58 @@ use case_lines::report::LineResult;
 ghost use Prim.Native.Nat.{_+_, _≤_};
 ghost use lib.ListN.{length};
 
-// The indexes of the numbers before the answer.
+// What a case unpacks. It is the same for all cases of a file.
+pub(crate) enum SourceKind {
+    Body,
+    Stream,
+}
+
+// The numbers before the answer come in three groups. These are the indexes of the first group, the sides, and how many they are.
 const WIDTH: usize = 0;
 
 const HEIGHT: usize = 1;
 
-const RLE: usize = 2;
+const SIDES_COUNT: usize = 2;
 
-const ALPHA: usize = 3;
+// The same for the header record, which only the line of a body has.
+const RLE: usize = 0;
 
-const DEFINITION: usize = 4;
+const ALPHA: usize = 1;
 
-const LEVEL: usize = 5;
+const DEFINITION: usize = 2;
 
-const SUBSAMPLED: usize = 6;
+const LEVEL: usize = 3;
 
-const WORK_ROOM: usize = 7;
+const SUBSAMPLED: usize = 4;
 
-const IMAGE_ROOM: usize = 8;
+const HEADER_COUNT: usize = 5;
 
-// The numbers of a case, and the index of the body field.
+// The same for the sizes. Only the line of a stream has the last of them.
+const WORK_ROOM: usize = 0;
+
+const IMAGE_ROOM: usize = 1;
+
+const WORK_SIZE: usize = 2;
+
+const BODY_SIZES_COUNT: usize = 2;
+
+const STREAM_SIZES_COUNT: usize = 3;
+
+// What the calls of a case return. The minimum size of the work area is 0 for a body, whose line does not have it.
+struct Returned {
+    work_size: usize,
+    answer: Answer,
+}
+
+// The numbers of a case, and the index of the field of its body or stream. The header record is not used for a stream.
 struct Case {
+    kind: SourceKind,
     header: BitmapStreamHeader,
     width: usize,
     height: usize,
     work_room: usize,
     image_room: usize,
-    answer: Answer,
+    expected: Returned,
     next: usize,
 }
 
@@ -68,27 +94,27 @@ enum FieldComparison {
 }
 
 // Replays the case of a line.
-pub(crate) fn replay(line: &[u8]) -> LineResult {
-    let ParsedCase::Value(case) = parse_case(line) else {
+pub(crate) fn replay(kind: SourceKind, line: &[u8]) -> LineResult {
+    let ParsedCase::Value(case) = parse_case(kind, line) else {
         return LineResult::Malformed;
     };
-    let mut body = guarded::new_array();
+    let mut source = guarded::new_array();
     let mut work = guarded::new_array();
     let mut image = guarded::new_array();
     replay_with_buffers(
         case,
         line,
-        &mut body[GUARD_SIZE..GUARD_SIZE + MAX_SLICE],
+        &mut source[GUARD_SIZE..GUARD_SIZE + MAX_SLICE],
         &mut work,
         &mut image,
     )
 }
 
-// The same with the case's numbers, and with buffers for the body, the work area and the image.
+// The same with the case's numbers, and with buffers for the body or stream, the work area and the image.
 fn replay_with_buffers(
     case: Case,
     line: &[u8],
-    body: &mut [u8],
+    source: &mut [u8],
     work: &mut [u8],
     image: &mut [u8],
 ) -> LineResult
@@ -101,63 +127,78 @@ fn replay_with_buffers(
         return LineResult::Malformed;
     }
     let start = case.next;
-    let Bytes::Value { count, next } = read::next_bytes(line, start, body) else {
+    let Bytes::Value { count, next } = read::next_bytes(line, start, source) else {
         return LineResult::Malformed;
     };
     let work_end = GUARD_SIZE + case.work_room;
     let image_end = GUARD_SIZE + case.image_room;
     let got = call(
         case,
-        &body[0..count],
+        &source[0..count],
         &mut work[GUARD_SIZE..work_end],
         &mut image[GUARD_SIZE..image_end],
     );
     compare(case, got, line, next, work, image)
 }
 
-// Reads the numbers of a case.
-fn parse_case(line: &[u8]) -> ParsedCase {
-    let mut numbers = [0usize; MAX_NUMBERS];
-    let start = read::next_numbers(line, 0, MAX_NUMBERS, &mut numbers);
+// Reads the numbers of a case. Those that its line does not have are 0.
+fn parse_case(kind: SourceKind, line: &[u8]) -> ParsedCase {
+    let mut sides = [0usize; MAX_NUMBERS];
+    let mut form = [0usize; MAX_NUMBERS];
+    let mut sizes = [0usize; MAX_NUMBERS];
+    let after_sides = read::next_numbers(line, 0, SIDES_COUNT, &mut sides);
+    let after_form = read::next_numbers(line, after_sides, header_count(kind), &mut form);
+    let start = read::next_numbers(line, after_form, sizes_count(kind), &mut sizes);
     let ParsedAnswer::Value { answer, next } = read::next_answer(line, start) else {
         return ParsedCase::Malformed;
     };
-    let ParsedHeader::Value(header) = header_of(numbers) else {
+    let ParsedHeader::Value(header) = header_of(form) else {
         return ParsedCase::Malformed;
     };
     ParsedCase::Value(Case {
+        kind,
         header,
-        width: numbers[WIDTH],
-        height: numbers[HEIGHT],
-        work_room: numbers[WORK_ROOM],
-        image_room: numbers[IMAGE_ROOM],
-        answer,
+        width: sides[WIDTH],
+        height: sides[HEIGHT],
+        work_room: sizes[WORK_ROOM],
+        image_room: sizes[IMAGE_ROOM],
+        expected: Returned {
+            work_size: sizes[WORK_SIZE],
+            answer,
+        },
         next,
     })
 }
 
+// How many numbers a line has for the header record.
+fn header_count(kind: SourceKind) -> usize {
+    match kind {
+        SourceKind::Body => HEADER_COUNT,
+        SourceKind::Stream => 0,
+    }
+}
+
+// How many it has for the sizes.
+fn sizes_count(kind: SourceKind) -> usize {
+    match kind {
+        SourceKind::Body => BODY_SIZES_COUNT,
+        SourceKind::Stream => STREAM_SIZES_COUNT,
+    }
+}
+
 // The header record of the numbers.
-fn header_of(numbers: [usize; MAX_NUMBERS]) -> ParsedHeader {
-    if !read::are_flags(
-        numbers[RLE],
-        numbers[ALPHA],
-        numbers[DEFINITION],
-        numbers[SUBSAMPLED],
-    ) {
+fn header_of(form: [usize; MAX_NUMBERS]) -> ParsedHeader {
+    if !read::are_flags(form[RLE], form[ALPHA], form[DEFINITION], form[SUBSAMPLED]) {
         return ParsedHeader::Malformed;
     }
-    let level = numbers[LEVEL];
+    let level = form[LEVEL];
     if 255 < level {
         return ParsedHeader::Malformed;
     }
-    let color_plane_definition = definition_of(
-        numbers[DEFINITION],
-        level as u8,
-        numbers[SUBSAMPLED],
-    );
+    let color_plane_definition = definition_of(form[DEFINITION], level as u8, form[SUBSAMPLED]);
     ParsedHeader::Value(BitmapStreamHeader {
-        enable_rle_compression: numbers[RLE] == 1,
-        use_alpha: numbers[ALPHA] == 1,
+        enable_rle_compression: form[RLE] == 1,
+        use_alpha: form[ALPHA] == 1,
         color_plane_definition,
     })
 }
@@ -172,20 +213,40 @@ fn definition_of(definition: usize, level: u8, subsampled: usize) -> ColorPlaneD
     }
 }
 
-// Makes the call of a case.
-fn call(case: Case, body: &[u8], work: &mut [u8], image: &mut [u8]) -> Answer {
+// Makes the calls of a case.
+fn call(case: Case, bytes: &[u8], work: &mut [u8], image: &mut [u8]) -> Returned {
     guarded::prepare(work);
     guarded::prepare(image);
+    Returned {
+        work_size: work_size(case, bytes),
+        answer: answer_of_decoded(decode(case, bytes, work, image)),
+    }
+}
+
+fn work_size(case: Case, bytes: &[u8]) -> usize {
+    let kind = case.kind;
+    match kind {
+        SourceKind::Body => 0,
+        SourceKind::Stream => bitmap_stream::stream_work_size(bytes, case.width, case.height),
+    }
+}
+
+fn decode(case: Case, bytes: &[u8], work: &mut [u8], image: &mut [u8]) -> Decoded {
+    let kind = case.kind;
     let header = case.header;
-    answer_of_decoded(bitmap_decoder::decode(header, body, work, image, case.width, case.height))
+    let width = case.width;
+    let height = case.height;
+    match kind {
+        SourceKind::Body => bitmap_decoder::decode(header, bytes, work, image, width, height),
+        SourceKind::Stream => {
+            bitmap_stream::decode_bitmap_stream_to_rgb24(bytes, work, image, width, height)
+        }
+    }
 }
 
 fn answer_of_decoded(decoded: Decoded) -> Answer {
     match decoded {
-        Decoded::Written(number) => Answer {
-            refused: false,
-            number,
-        },
+        Decoded::Written(number) => answer_of_size(number),
         Decoded::Refused(refusal) => report::answer_of_refusal(refusal),
     }
 }
@@ -193,7 +254,7 @@ fn answer_of_decoded(decoded: Decoded) -> Answer {
 // Compares everything that can be observed with the line, whose remaining fields begin at `start`.
 fn compare(
     case: Case,
-    got: Answer,
+    got: Returned,
     line: &[u8],
     start: usize,
     work: &[u8],
@@ -220,8 +281,36 @@ fn compare(
     }
     let bytes_equal = work_comparison.bytes_equal && image_comparison.bytes_equal;
     let guards_unchanged = work_comparison.guards_unchanged && image_comparison.guards_unchanged;
-    let expected = case.answer;
-    report::case_result(expected, got, true, bytes_equal, guards_unchanged)
+    let expected = case.expected;
+    result_of(expected, got, bytes_equal, guards_unchanged)
+}
+
+// The result of a case. Only one pair of answers is reported: the minimum sizes of the work area if they differ.
+fn result_of(
+    expected: Returned,
+    got: Returned,
+    bytes_equal: bool,
+    guards_unchanged: bool,
+) -> LineResult {
+    if got.work_size != expected.work_size {
+        return report::case_result(
+            answer_of_size(expected.work_size),
+            answer_of_size(got.work_size),
+            true,
+            bytes_equal,
+            guards_unchanged,
+        );
+    }
+    let expected_answer = expected.answer;
+    let answer = got.answer;
+    report::case_result(expected_answer, answer, true, bytes_equal, guards_unchanged)
+}
+
+fn answer_of_size(number: usize) -> Answer {
+    Answer {
+        refused: false,
+        number,
+    }
 }
 
 // Compares the slice of `size` bytes that lies between guard bytes in `array` with the field at `start`.

@@ -49,7 +49,9 @@ part-call-start-2 : tie.Need-part-call-start-2
 part-call-start-2 c = search needs
 
 part-call-end-2 : tie.Need-part-call-end-2
-part-call-end-2 c = search needs
+part-call-end-2 c =
+    let e = c .before .before .before .before .before .before .before .before .before .before .before in
+    omega (arith, e .before .before .before .before .before .before .before .before .pre .0, e .before .before .if1 .left)
 
 sub-call-3 : tie.Need-sub-call-3
 sub-call-3 c = search needs
