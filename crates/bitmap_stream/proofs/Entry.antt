@@ -1,4 +1,4 @@
--- A stream that is read, by what the code has found of it.
+-- Unpacking a stream, and its work area, in the cases that the code tells apart: empty, RLE, raw of one byte, raw.
 use mathlib.Core.Path.{_≡_, refl, sym, ap, _∙_}
 use mathlib.Core.Bool.{Bool, true, false}
 use mathlib.Core.List.{List, [], _∷_}
@@ -16,7 +16,7 @@ use Rattle.bitmap_format.specs.HeaderByte.{headerFromByte}
 use Rattle.bitmap_format.specs.Stream.{withoutPad, splitRest, splitStream, unpackSplit, unpackStreamBy, streamWorkSize}
 use Rattle.bitmap_format.proofs.StreamClaims.{split-raw}
 
--- what a call leaves, told by an equal picture
+-- a contract for one outcome is the contract for an equal one
 pub left-as : (p q : PictureOutcome) (a : Answer) (work image : List ℕ) → p ≡ q → (a ≡ q .answer) × ((work ≡ q .work) × (image ≡ q .image))
     → (a ≡ p .answer) × ((work ≡ p .work) × (image ≡ p .image))
 left-as p q a work image e l = (
@@ -24,7 +24,7 @@ left-as p q a work image e l = (
   (l .1 .0 ∙ sym (ap (λ (x : PictureOutcome). x .work) e), l .1 .1 ∙ sym (ap (λ (x : PictureOutcome). x .image) e)),
 )
 
--- ---- unpacking by `u`
+-- ---- unpacking; `u` unpacks a body
 
 module _ (u : BitmapStreamHeader → List ℕ → PictureOutcome) (work image : List ℕ) where
   pub read-empty : (stream : List ℕ) → length stream ≡ 0 → unpackStreamBy u work image stream ≡ refusedPicture work image 13
@@ -32,7 +32,7 @@ module _ (u : BitmapStreamHeader → List ℕ → PictureOutcome) (work image : 
   read-empty [] e = refl
   read-empty (b ∷ rest) e = absurd (omega arith)
 
-  -- the header byte stands first
+  -- a stream that has a first byte
   first-byte : (stream : List ℕ) (header : BitmapStreamHeader) (rle : Bool) → (length stream ≡ 0 → ⊥) → header ≡ headerFromByte (getD stream 0 0)
       → header .«enable_rle_compression» ≡ rle → unpackStreamBy u work image stream ≡ unpackSplit u work image (splitRest header rle (drop 1 stream))
   unfolding unpackStreamBy splitStream
