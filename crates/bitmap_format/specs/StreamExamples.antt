@@ -129,14 +129,15 @@ three = threePlanes (1 ∷ []) (2 ∷ []) (3 ∷ [])
 abbrev pub four : List (List ℕ)
 four = fourPlanes (1 ∷ []) (2 ∷ []) (3 ∷ []) (4 ∷ [])
 
--- Raw and RLE, three planes and four, into just enough room or one byte more; then one byte less. Where the room ends, an RLE stream keeps its
--- complete segments, and not the header byte. Then room for the header byte alone
+-- Raw and RLE, three planes and four, into just enough room or one byte more; two pixels side by side; then one byte less. Where the room ends, an
+-- RLE stream keeps its complete segments, and not the header byte. Then room for the header byte alone
 abbrev pub packed : List Example
 packed =
     packs false false 1 1 three (0x20 ∷ 1 ∷ 2 ∷ 3 ∷ 0 ∷ unwritten 1) (counted 5)
     ∷ packs true false 1 1 four (0x20 ∷ 4 ∷ 1 ∷ 2 ∷ 3 ∷ 0 ∷ []) (counted 6)
     ∷ packs false true 1 1 three (0x30 ∷ 0x10 ∷ 1 ∷ 0x10 ∷ 2 ∷ 0x10 ∷ 3 ∷ []) (counted 7)
     ∷ packs true true 1 1 four (0x30 ∷ 0x10 ∷ 4 ∷ 0x10 ∷ 1 ∷ 0x10 ∷ 2 ∷ 0x10 ∷ 3 ∷ unwritten 1) (counted 9)
+    ∷ packs false true 2 1 (threePlanes (1 ∷ 2 ∷ []) (3 ∷ 4 ∷ []) (5 ∷ 6 ∷ [])) (0x30 ∷ 0x20 ∷ 1 ∷ 2 ∷ 0x20 ∷ 3 ∷ 4 ∷ 0x20 ∷ 5 ∷ 6 ∷ []) (counted 10)
     ∷ packs false false 1 1 three (unwritten 4) (refused 12)
     ∷ packs false true 1 1 three (0xEE ∷ 0x10 ∷ 1 ∷ 0x10 ∷ 2 ∷ unwritten 1) (refused 12)
     ∷ packs true true 1 1 four (unwritten 1) (refused 12)
