@@ -1,4 +1,4 @@
--- The image of a picture, from its colour planes (FORMAT 6).
+-- The image of a picture, from its planes (FORMAT 6).
 use Prim.Native.Nat.{ℕ, zero, suc, _+_, _*_, _/_}
 use mathlib.Core.Bool.{Bool, false}
 use mathlib.Core.List.{List, [], _++_}
@@ -8,8 +8,9 @@ use Rattle.rle_format.specs.Slice.{writeAt}
 use Rattle.bitmap_format.specs.declared.Rgb.{Rgb}
 use Rattle.bitmap_format.specs.declared.ColorPlaneDefinition.{ColorPlaneDefinition}
 use Rattle.bitmap_format.specs.declared.ColorPlaneDefinition.the-variants.{Argb, AYCoCg}
-use Rattle.bitmap_format.specs.Colour.{rgb, aycocgColour, rgb24}
+use Rattle.bitmap_format.specs.Colour.{rgb, aycocgColour}
 use Rattle.bitmap_format.specs.Planes.{PlaneAt, firstPlane, secondPlane, thirdPlane}
+use Rattle.bitmap_format.specs.Pixels.{PixelForm, pixelBytes, alphaAt}
 
 -- the sample at a row and a column of a plane. Beyond the end of `planes` it would be 0; the checks of a picture exclude that
 unfoldable pub sample : (planes : List ℕ) → PlaneAt → (row column : ℕ) → ℕ
@@ -34,9 +35,10 @@ unfoldable pub concatUpTo : ℕ → (ℕ → List ℕ) → List ℕ
 concatUpTo zero f = []
 concatUpTo (suc n) f = concatUpTo n f ++ f n
 
--- the bytes of a row of the image (FORMAT 6.1)
-unfoldable pub imageRow : ColorPlaneDefinition → (alpha : Bool) (width height : ℕ) (planes : List ℕ) (row : ℕ) → List ℕ
-imageRow d alpha width height planes row = concatUpTo width (λ (column : ℕ). rgb24 (colourAt d alpha width height planes row column))
+-- the bytes of a row of the image (FORMAT 6.1, 6.6). `planes` begins with the colour planes, `alpha` with the alpha plane if it is flagged
+unfoldable pub imageRow : PixelForm → ColorPlaneDefinition → (flagged : Bool) (width height : ℕ) (planes alpha : List ℕ) (row : ℕ) → List ℕ
+imageRow form d flagged width height planes alpha row =
+    concatUpTo width (λ (column : ℕ). pixelBytes form (colourAt d flagged width height planes row column) (alphaAt flagged alpha width row column))
 
 -- the image with its first n rows written, row r from index r × `pitch` on: the distance from row to row
 unfoldable pub writeRows : (pitch : ℕ) (row : ℕ → List ℕ) (n : ℕ) (image : List ℕ) → List ℕ

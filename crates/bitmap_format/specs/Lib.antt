@@ -1,6 +1,7 @@
 pub mod Checks
 pub mod Colour
 pub mod Planes
+pub mod Pixels
 pub mod Sizes
 pub mod Image
 pub mod UnpackPlanes

@@ -7,14 +7,16 @@ use lib.Dec.{ltb, eqb}
 use Rattle.rle_format.specs.Choice.{choose}
 use Rattle.rle_format.specs.Sides.{checkSides}
 use Rattle.rle_format.specs.Answer.{Answer, counted, refused, number}
+use Rattle.pixel_format.specs.Channel.{ChannelOffsets}
 use Rattle.bitmap_format.specs.declared.BitmapStreamHeader.{BitmapStreamHeader}
 use Rattle.bitmap_format.specs.declared.ColorPlaneDefinition.{ColorPlaneDefinition}
 use Rattle.bitmap_format.specs.declared.ColorPlaneDefinition.the-variants.{Argb, AYCoCg}
 use Rattle.bitmap_format.specs.declared.Decoded.{Decoded}
 use Rattle.bitmap_format.specs.declared.Decoded.the-variants.{Written, Refused}
 use Rattle.bitmap_format.specs.Checks.{Check, check, firstRefusal}
-use Rattle.bitmap_format.specs.Planes.{alphaPlanes, planesOf}
-use Rattle.bitmap_format.specs.Sizes.{sampleCount, sumOver, minBodySize, workSize, rowSize, imageSize}
+use Rattle.bitmap_format.specs.Planes.{alphaPlanes, planesWithAlphaAt}
+use Rattle.bitmap_format.specs.Pixels.{PixelForm, threeBytes, fourBytes}
+use Rattle.bitmap_format.specs.Sizes.{sampleCount, sumOver, minBodySize, alphaOffset, workSize, rowSize, imageSize}
 use Rattle.bitmap_format.specs.Image.{imageRow, writeRows}
 use Rattle.bitmap_format.specs.UnpackPlanes.{PlanesOutcome, unpackPlanes}
 
@@ -34,51 +36,64 @@ isLossLevelInvalid Argb = false
 isLossLevelInvalid (AYCoCg level subsampling) = eqb level 0 || ltb 7 level
 
 -- the checks of a picture, after those of the sides. The last three arguments are the lengths of the slices
-abbrev pub pictureChecks : BitmapStreamHeader → (width height body work image : ℕ) → List Check
-pictureChecks header width height body work image =
+abbrev pub pictureChecks : PixelForm → BitmapStreamHeader → (width height body work image : ℕ) → List Check
+pictureChecks form header width height body work image =
     check 3 (isLossLevelInvalid (header .«color_plane_definition»))
     ∷ check 4 (ltb body (minBodySize header width height))
-    ∷ check 5 (ltb work (workSize header width height))
-    ∷ check 6 (ltb image (imageSize width height))
+    ∷ check 5 (ltb work (workSize form header width height))
+    ∷ check 6 (ltb image (imageSize form width height))
     ∷ []
 
 -- the answer of all checks: the first refusal, or the size of the image, which is the picture's answer unless one of its planes is refused
-unfoldable pub checkPicture : BitmapStreamHeader → (width height body work image : ℕ) → Answer
-checkPicture header width height body work image =
-    checkSides refused width height (firstRefusal (pictureChecks header width height body work image) (counted (imageSize width height)))
+unfoldable pub checkPicture : PixelForm → BitmapStreamHeader → (width height body work image : ℕ) → Answer
+checkPicture form header width height body work image =
+    checkSides refused width height
+    (firstRefusal (pictureChecks form header width height body work image) (counted (imageSize form width height)))
 
--- the image written from the colour planes at the start of `planes`
-unfoldable pub writeImage : BitmapStreamHeader → (width height : ℕ) (planes work image : List ℕ) → PictureOutcome
-writeImage header width height planes work image = record {
+-- the image written from the colour planes at the start of `planes`, and from alpha, if flagged, at the start of `alpha`
+unfoldable pub writeImage : PixelForm → BitmapStreamHeader → (width height : ℕ) (planes alpha work image : List ℕ) → PictureOutcome
+writeImage form header width height planes alpha work image = record {
   work = work;
-  image = writeRows (rowSize width) (imageRow (header .«color_plane_definition») (header .«use_alpha») width height planes) height image;
-  answer = counted (imageSize width height);
+  image = writeRows (rowSize form width)
+      (imageRow form (header .«color_plane_definition») (header .«use_alpha») width height planes alpha)
+      height
+      image;
+  answer = counted (imageSize form width height);
 }
 
--- a raw picture has its colour planes in the body, behind alpha, and does not use the work area
-unfoldable pub unpackRaw : BitmapStreamHeader → (width height : ℕ) (body work image : List ℕ) → PictureOutcome
-unpackRaw header width height body work image =
-    writeImage header width height (drop (sumOver sampleCount (alphaPlanes (header .«use_alpha») width height)) body) work image
+-- a raw picture has its planes in the body, alpha first, and does not use the work area
+unfoldable pub unpackRaw : PixelForm → BitmapStreamHeader → (width height : ℕ) (body work image : List ℕ) → PictureOutcome
+unpackRaw form header width height body work image =
+    writeImage form header width height (drop (sumOver sampleCount (alphaPlanes (header .«use_alpha») width height)) body) body work image
 
--- an RLE picture has its colour planes in the work area, unless one was refused
-unfoldable pub imageFromWork : BitmapStreamHeader → (width height : ℕ) (work image : List ℕ) → Answer → PictureOutcome
-imageFromWork header width height work image (counted n) = writeImage header width height work work image
-imageFromWork header width height work image (refused r) = refusedPicture work image r
+-- an RLE picture has its planes in the work area, unless one was refused
+unfoldable pub imageFromWork : PixelForm → BitmapStreamHeader → (width height : ℕ) (work image : List ℕ) → Answer → PictureOutcome
+imageFromWork form header width height work image (counted n) =
+    writeImage form header width height work (drop (alphaOffset form header width height) work) work image
+imageFromWork form header width height work image (refused r) = refusedPicture work image r
 
 -- an RLE picture (FORMAT 2.4, 2.5)
-unfoldable pub unpackRle : BitmapStreamHeader → (width height : ℕ) (body work image : List ℕ) → PictureOutcome
-unpackRle header width height body work image =
-    let u : PlanesOutcome = unpackPlanes (planesOf header width height) work body in
-    imageFromWork header width height (u .work) image (u .answer)
+unfoldable pub unpackRle : PixelForm → BitmapStreamHeader → (width height : ℕ) (body work image : List ℕ) → PictureOutcome
+unpackRle form header width height body work image =
+    let u : PlanesOutcome = unpackPlanes (planesWithAlphaAt (alphaOffset form header width height) header width height) work body in
+    imageFromWork form header width height (u .work) image (u .answer)
 
--- unpacking a picture: refusals 1 to 6, which change nothing, then 7, 8, 9 (FORMAT 8.2, 8.3)
-unfoldable pub unpackPicture : BitmapStreamHeader → (width height : ℕ) (body work image : List ℕ) → PictureOutcome
-unpackPicture header width height body work image =
-    elim (checkPicture header width height (length body) (length work) (length image)) [
+-- unpacking a picture to pixels of either form: refusals 1 to 6, which change nothing, then 7, 8, 9 (FORMAT 8.2, 8.3)
+unfoldable pub unpackTo : PixelForm → BitmapStreamHeader → (width height : ℕ) (body work image : List ℕ) → PictureOutcome
+unpackTo form header width height body work image =
+    elim (checkPicture form header width height (length body) (length work) (length image)) [
       | refused r ↦ refusedPicture work image r
-      | counted n ↦ choose (header .«enable_rle_compression») (unpackRle header width height body work image)
-          (unpackRaw header width height body work image)
+      | counted n ↦ choose (header .«enable_rle_compression») (unpackRle form header width height body work image)
+          (unpackRaw form header width height body work image)
     ]
+
+-- to R, G and B
+abbrev pub unpackPicture : BitmapStreamHeader → (width height : ℕ) (body work image : List ℕ) → PictureOutcome
+unpackPicture header width height body work image = unpackTo threeBytes header width height body work image
+
+-- to four-byte pixels with R, G, B and A at these offsets
+abbrev pub unpackPixels : ChannelOffsets → BitmapStreamHeader → (width height : ℕ) (body work image : List ℕ) → PictureOutcome
+unpackPixels p header width height body work image = unpackTo (fourBytes p) header width height body work image
 
 -- the answer of unpacking a picture
 abbrev pub decodedToAnswer : Decoded → Answer

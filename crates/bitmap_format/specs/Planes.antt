@@ -40,11 +40,18 @@ thirdPlane s width height =
 unfoldable pub colourPlanes : (subsampling : Bool) (width height : ℕ) → List PlaneAt
 colourPlanes s width height = firstPlane width height ∷ secondPlane s width height ∷ thirdPlane s width height ∷ []
 
--- alpha, if flagged. It too has offset 0, where the first colour plane overwrites it (FORMAT 2.5)
-unfoldable pub alphaPlanes : (alpha : Bool) (width height : ℕ) → List PlaneAt
-alphaPlanes alpha width height = choose alpha (planeAt width height 0 ∷ []) []
+-- alpha, if flagged, at an offset of the work area
+unfoldable pub alphaPlanesAt : (offset : ℕ) (alpha : Bool) (width height : ℕ) → List PlaneAt
+alphaPlanesAt offset alpha width height = choose alpha (planeAt width height offset ∷ []) []
 
 -- all planes, in the order of the body (FORMAT 2.1)
-unfoldable pub planesOf : BitmapStreamHeader → (width height : ℕ) → List PlaneAt
-planesOf header width height =
-    alphaPlanes (header .«use_alpha») width height ++ colourPlanes (subsampled (header .«color_plane_definition»)) width height
+unfoldable pub planesWithAlphaAt : (offset : ℕ) → BitmapStreamHeader → (width height : ℕ) → List PlaneAt
+planesWithAlphaAt offset header width height =
+    alphaPlanesAt offset (header .«use_alpha») width height ++ colourPlanes (subsampled (header .«color_plane_definition»)) width height
+
+-- the same with alpha at the start of the work area, where the first colour plane overwrites it (FORMAT 2.5)
+abbrev pub alphaPlanes : (alpha : Bool) (width height : ℕ) → List PlaneAt
+alphaPlanes alpha width height = alphaPlanesAt 0 alpha width height
+
+abbrev pub planesOf : BitmapStreamHeader → (width height : ℕ) → List PlaneAt
+planesOf header width height = planesWithAlphaAt 0 header width height

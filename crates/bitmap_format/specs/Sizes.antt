@@ -5,6 +5,7 @@ use mathlib.Core.List.{List, [], _∷_}
 use Rattle.rle_format.specs.Choice.{choose}
 use Rattle.bitmap_format.specs.declared.BitmapStreamHeader.{BitmapStreamHeader}
 use Rattle.bitmap_format.specs.Planes.{PlaneAt, subsampled, colourPlanes, planesOf}
+use Rattle.bitmap_format.specs.Pixels.{PixelForm, threeBytes, fourBytes, bytesPerPixel, shownAlphaSize}
 
 -- the number of samples of a plane
 abbrev pub sampleCount : PlaneAt → ℕ
@@ -24,14 +25,24 @@ sumOver size (p ∷ planes) = size p + sumOver size planes
 unfoldable pub minBodySize : BitmapStreamHeader → (width height : ℕ) → ℕ
 minBodySize header width height = sumOver (minPlaneSize (header .«enable_rle_compression»)) (planesOf header width height)
 
--- the minimum size of the work area: the three colour planes of an RLE picture; 0 for a raw one (FORMAT 2.5)
-unfoldable pub workSize : BitmapStreamHeader → (width height : ℕ) → ℕ
-workSize header width height =
-    choose (header .«enable_rle_compression») (sumOver sampleCount (colourPlanes (subsampled (header .«color_plane_definition»)) width height)) 0
+-- the size of the three colour planes
+unfoldable pub colourPlanesSize : BitmapStreamHeader → (width height : ℕ) → ℕ
+colourPlanesSize header width height = sumOver sampleCount (colourPlanes (subsampled (header .«color_plane_definition»)) width height)
+
+-- where alpha is unpacked to: if the pixels do not show it, to the start of the work area, where the first colour plane overwrites it; else
+-- behind the colour planes (FORMAT 2.5)
+abbrev pub alphaOffset : PixelForm → BitmapStreamHeader → (width height : ℕ) → ℕ
+alphaOffset threeBytes header width height = 0
+alphaOffset (fourBytes p) header width height = colourPlanesSize header width height
+
+-- the minimum size of the work area: the three colour planes of an RLE picture, and alpha if the pixels show it; 0 for a raw one (FORMAT 2.5)
+unfoldable pub workSize : PixelForm → BitmapStreamHeader → (width height : ℕ) → ℕ
+workSize form header width height =
+    choose (header .«enable_rle_compression») (shownAlphaSize form (header .«use_alpha») width height + colourPlanesSize header width height) 0
 
 -- the bytes of a row of the image, and of the image (FORMAT 2.6)
-unfoldable pub rowSize : (width : ℕ) → ℕ
-rowSize width = 3 * width
+unfoldable pub rowSize : PixelForm → (width : ℕ) → ℕ
+rowSize form width = bytesPerPixel form * width
 
-unfoldable pub imageSize : (width height : ℕ) → ℕ
-imageSize width height = 3 * width * height
+unfoldable pub imageSize : PixelForm → (width height : ℕ) → ℕ
+imageSize form width height = bytesPerPixel form * width * height

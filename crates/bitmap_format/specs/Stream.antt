@@ -5,10 +5,12 @@ use mathlib.Core.List.{List, [], _∷_}
 use lib.ListN.{length, take}
 use Rattle.rle_format.specs.Answer.{Answer, counted, refused, Outcome}
 use Rattle.rle_format.specs.Slice.{overwrite}
+use Rattle.pixel_format.specs.Channel.{ChannelOffsets}
 use Rattle.bitmap_format.specs.declared.BitmapStreamHeader.{BitmapStreamHeader}
 use Rattle.bitmap_format.specs.HeaderByte.{headerFromByte, headerToByte}
+use Rattle.bitmap_format.specs.Pixels.{PixelForm}
 use Rattle.bitmap_format.specs.Sizes.{workSize}
-use Rattle.bitmap_format.specs.Picture.{PictureOutcome, refusedPicture, unpackPicture}
+use Rattle.bitmap_format.specs.Picture.{PictureOutcome, refusedPicture, unpackPicture, unpackPixels}
 use Rattle.bitmap_format.specs.PackPicture.{checkPack, packPicture, headerToSend}
 
 -- ---- unpacking
@@ -47,10 +49,15 @@ abbrev pub unpackStream : (width height : ℕ) (stream work image : List ℕ) �
 unpackStream width height stream work image =
     unpackStreamBy (λ (header : BitmapStreamHeader) (body : List ℕ). unpackPicture header width height body work image) work image stream
 
+-- unpacking a stream to four-byte pixels
+abbrev pub unpackPixelStream : ChannelOffsets → (width height : ℕ) (stream work image : List ℕ) → PictureOutcome
+unpackPixelStream p width height stream work image =
+    unpackStreamBy (λ (header : BitmapStreamHeader) (body : List ℕ). unpackPixels p header width height body work image) work image stream
+
 -- the minimum size of the work area (FORMAT 2.5), 0 for an empty stream
-unfoldable pub streamWorkSize : (width height : ℕ) (stream : List ℕ) → ℕ
-streamWorkSize width height [] = 0
-streamWorkSize width height (byte ∷ rest) = workSize (headerFromByte byte) width height
+unfoldable pub streamWorkSize : PixelForm → (width height : ℕ) (stream : List ℕ) → ℕ
+streamWorkSize form width height [] = 0
+streamWorkSize form width height (byte ∷ rest) = workSize form (headerFromByte byte) width height
 
 -- ---- packing
 

@@ -6,10 +6,14 @@ ghost use mathlib.Core.Path.{_≡_};
 ghost use Prim.Native.Nat.{ℕ};
 ghost use Rattle.rle_format.specs.Sides.{checkSides};
 ghost use Rattle.bitmap_format.specs.Planes.{subsampled, chromaSide};
-ghost use Rattle.bitmap_format.specs.Sizes.{minBodySize, workSize, imageSize};
+ghost use Rattle.bitmap_format.specs.Pixels.{formatToForm};
+ghost use Rattle.bitmap_format.specs.Sizes.{minBodySize, colourPlanesSize, workSize, imageSize};
+use pixel_format::PixelFormat;
+use plane_sizes::bytes_per_pixel;
 use plane_sizes::is_within;
 use plane_sizes::min_color_planes_size;
 use plane_sizes::min_plane_size;
+use plane_sizes::shown_alpha_size;
 use rle_format::Refusal;
 
 // The plane definition (FORMAT 1.3). The names are IronRDP's.
@@ -90,9 +94,26 @@ pub fn min_body_size(header: BitmapStreamHeader, width: usize, height: usize) ->
     color
 }
 
+// The size of the three colour planes, or 0 if the sides are refused.
+pub fn color_planes_size(header: BitmapStreamHeader, width: usize, height: usize) -> usize
+    ensures { λ r. ⌜ r ≡ checkSides (λ (_ : ℕ). 0) width height (colourPlanesSize header width height) ⌝ }
+{
+    if !is_within(width, height) {
+        return 0;
+    }
+    let definition = header.color_plane_definition;
+    let subsampling = has_subsampled_chroma(definition);
+    min_color_planes_size(false, subsampling, width, height)
+}
+
 // The minimum size of the work area, or 0 if the sides are refused. For a raw picture it is 0.
-pub fn work_size(header: BitmapStreamHeader, width: usize, height: usize) -> usize
-    ensures { λ r. ⌜ r ≡ checkSides (λ (_ : ℕ). 0) width height (workSize header width height) ⌝ }
+pub fn work_size(
+    format: PixelFormat,
+    header: BitmapStreamHeader,
+    width: usize,
+    height: usize,
+) -> usize
+    ensures { λ r. ⌜ r ≡ checkSides (λ (_ : ℕ). 0) width height (workSize (formatToForm format) header width height) ⌝ }
 {
     if !is_within(width, height) {
         return 0;
@@ -100,17 +121,18 @@ pub fn work_size(header: BitmapStreamHeader, width: usize, height: usize) -> usi
     if header.enable_rle_compression {
         let definition = header.color_plane_definition;
         let subsampling = has_subsampled_chroma(definition);
-        return min_color_planes_size(false, subsampling, width, height);
+        let color = min_color_planes_size(false, subsampling, width, height);
+        return shown_alpha_size(format, header.use_alpha, width, height) + color;
     }
     0
 }
 
 // The minimum size of the image, or 0 if the sides are refused.
-pub fn image_size(width: usize, height: usize) -> usize
-    ensures { λ r. ⌜ r ≡ checkSides (λ (_ : ℕ). 0) width height (imageSize width height) ⌝ }
+pub fn image_size(format: PixelFormat, width: usize, height: usize) -> usize
+    ensures { λ r. ⌜ r ≡ checkSides (λ (_ : ℕ). 0) width height (imageSize (formatToForm format) width height) ⌝ }
 {
     if !is_within(width, height) {
         return 0;
     }
-    3 * width * height
+    bytes_per_pixel(format) * width * height
 }
