@@ -8,7 +8,8 @@ use lib.ListN.{length, length-append}
 use Rattle.rle_format.specs.Slice.{overwrite, writeAt}
 use Rattle.rle_format.proofs.Slice.{overwrite-nil, overwrite-append}
 use Rattle.bitmap_format.specs.declared.ColorPlaneDefinition.{ColorPlaneDefinition}
-use Rattle.bitmap_format.specs.Colour.{rgb24}
+use Rattle.bitmap_format.specs.declared.Rgb.{Rgb}
+use Rattle.bitmap_format.specs.Pixels.{PixelForm, threeBytes, fourBytes, bytesPerPixel, pixelBytes, alphaAt}
 use Rattle.bitmap_format.specs.Sizes.{rowSize}
 use Rattle.bitmap_format.specs.Image.{colourAt, concatUpTo, imageRow, writeRows}
 
@@ -25,11 +26,19 @@ writeRows-overwrite pitch row (suc n) image h =
     ap (λ (l : List ℕ). writeAt l (n * pitch) (row n)) (writeRows-overwrite pitch row n image h)
     ∙ overwrite-append image (concatUpTo n row) (row n) (n * pitch) (length-concatUpTo n pitch row h)
 
-pub length-imageRow : (d : ColorPlaneDefinition) (alpha : Bool) (w h : ℕ) (planes : List ℕ) (row : ℕ) → length (imageRow d alpha w h planes row) ≡ rowSize w
+pub length-pixelBytes : (form : PixelForm) (c : Rgb) (alpha : ℕ) → length (pixelBytes form c alpha) ≡ bytesPerPixel form
+length-pixelBytes threeBytes c alpha = refl
+length-pixelBytes (fourBytes p) c alpha = refl
+
+pub length-imageRow : (form : PixelForm) (d : ColorPlaneDefinition) (flagged : Bool) (w h : ℕ) (planes alpha : List ℕ) (row : ℕ)
+    → length (imageRow form d flagged w h planes alpha row) ≡ rowSize form w
 unfolding imageRow rowSize
-length-imageRow d alpha w h planes row = length-concatUpTo w 3 (λ (column : ℕ). rgb24 (colourAt d alpha w h planes row column)) (λ i. refl) ∙ mul-comm w 3
+length-imageRow form d flagged w h planes alpha row =
+    length-concatUpTo w (bytesPerPixel form) (λ (column : ℕ). pixelBytes form (colourAt d flagged w h planes row column) (alphaAt flagged alpha w row column)) (λ i. length-pixelBytes form _ _)
+    ∙ mul-comm w (bytesPerPixel form)
 
 -- and so the image of a picture is
-pub image-contiguous : (d : ColorPlaneDefinition) (alpha : Bool) (w h : ℕ) (planes image : List ℕ)
-    → writeRows (rowSize w) (imageRow d alpha w h planes) h image ≡ overwrite image (concatUpTo h (imageRow d alpha w h planes))
-image-contiguous d alpha w h planes image = writeRows-overwrite (rowSize w) (imageRow d alpha w h planes) h image (length-imageRow d alpha w h planes)
+pub image-contiguous : (form : PixelForm) (d : ColorPlaneDefinition) (flagged : Bool) (w h : ℕ) (planes alpha image : List ℕ)
+    → writeRows (rowSize form w) (imageRow form d flagged w h planes alpha) h image ≡ overwrite image (concatUpTo h (imageRow form d flagged w h planes alpha))
+image-contiguous form d flagged w h planes alpha image =
+    writeRows-overwrite (rowSize form w) (imageRow form d flagged w h planes alpha) h image (length-imageRow form d flagged w h planes alpha)

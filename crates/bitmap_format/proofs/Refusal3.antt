@@ -13,15 +13,16 @@ use Rattle.rle_format.specs.Answer.{Answer, counted, refused, addCount}
 use Rattle.rle_format.proofs.Answer.{refused-not-counted}
 use Rattle.rle_format.proofs.Plane.{PlaneRefusal, plane-bounded}
 use Rattle.bitmap_format.specs.declared.BitmapStreamHeader.{BitmapStreamHeader}
-use Rattle.bitmap_format.specs.Planes.{PlaneAt, planesOf}
+use Rattle.bitmap_format.specs.Planes.{PlaneAt, planesWithAlphaAt}
+use Rattle.bitmap_format.specs.Pixels.{PixelForm}
 use Rattle.bitmap_format.specs.Checks.{firstRefusal}
-use Rattle.bitmap_format.specs.Sizes.{minBodySize, workSize, imageSize}
+use Rattle.bitmap_format.specs.Sizes.{minBodySize, alphaOffset, workSize, imageSize}
 use Rattle.bitmap_format.specs.UnpackPlanes.{PlanesOutcome, addRead, unpackPlaneAt, unpackPlanes}
-use Rattle.bitmap_format.specs.Picture.{PictureOutcome, isLossLevelInvalid, checkPicture, writeImage, unpackRaw, imageFromWork, unpackRle, unpackPicture}
+use Rattle.bitmap_format.specs.Picture.{PictureOutcome, isLossLevelInvalid, checkPicture, writeImage, unpackRaw, imageFromWork, unpackRle, unpackTo}
 use Rattle.bitmap_format.proofs.UnpackPlanes.{workAfter, unpackPlanes-read}
-use Rattle.bitmap_format.proofs.Picture.{unpackPicture-refused, unpackPicture-rle, unpackPicture-raw}
+use Rattle.bitmap_format.proofs.Picture.{unpackTo-refused, unpackTo-rle, unpackTo-raw}
 use Rattle.bitmap_format.specs.HeaderByte.{headerFromByte}
-use Rattle.bitmap_format.specs.Stream.{splitRest, splitStream, unpackSplit, unpackStreamBy, unpackStream}
+use Rattle.bitmap_format.specs.Stream.{splitRest, splitStream, unpackSplit, unpackStreamBy, unpackStreamTo}
 use Rattle.bitmap_format.proofs.HeaderByte.{read-level-valid}
 
 -- ---- planes
@@ -58,14 +59,14 @@ not-3 n = absurd (⊎-elim (λ e. omega arith) (⊎-elim (λ e. omega arith) (�
 not-refused-3 : {X : Type 0} (r : ℕ) → (r ≡ 3 → ⊥) → refused r ≡ refused 3 → X
 not-refused-3 r h e = let z : r ≡ 3 = cc in absurd (h z)
 
-module _ (header : BitmapStreamHeader) (w h : ℕ) (valid : isLossLevelInvalid (header .«color_plane_definition») ≡ false) where
-  checks-not-3 : (body work image : ℕ) → checkPicture header w h body work image ≡ refused 3 → ⊥
+module _ (form : PixelForm) (header : BitmapStreamHeader) (w h : ℕ) (valid : isLossLevelInvalid (header .«color_plane_definition») ≡ false) where
+  checks-not-3 : (body work image : ℕ) → checkPicture form header w h body work image ≡ refused 3 → ⊥
   unfolding checkPicture checkSides firstRefusal
   checks-not-3 body work image e =
-      go (eqb w 0 || eqb h 0) (ltb 8192 w || ltb 8192 h) (isLossLevelInvalid (header .«color_plane_definition»)) (ltb body (minBodySize header w h)) (ltb work (workSize header w h)) (ltb image (imageSize w h)) valid e
+      go (eqb w 0 || eqb h 0) (ltb 8192 w || ltb 8192 h) (isLossLevelInvalid (header .«color_plane_definition»)) (ltb body (minBodySize header w h)) (ltb work (workSize form header w h)) (ltb image (imageSize form w h)) valid e
     where
       go : (s t three four five six : Bool) → three ≡ false
-          → choose s (refused 1) (choose t (refused 2) (choose three (refused 3) (choose four (refused 4) (choose five (refused 5) (choose six (refused 6) (counted (imageSize w h))))))) ≡ refused 3 → ⊥
+          → choose s (refused 1) (choose t (refused 2) (choose three (refused 3) (choose four (refused 4) (choose five (refused 5) (choose six (refused 6) (counted (imageSize form w h))))))) ≡ refused 3 → ⊥
       go true t three four five six r e = not-refused-3 1 (λ z. omega arith) e
       go false true three four five six r e = not-refused-3 2 (λ z. omega arith) e
       go false false true four five six r e = let z : _≡_ {A = ℕ} 0 1 = cc in absurd (omega arith)
@@ -74,37 +75,37 @@ module _ (header : BitmapStreamHeader) (w h : ℕ) (valid : isLossLevelInvalid (
       go false false false false false true r e = not-refused-3 6 (λ z. omega arith) e
       go false false false false false false r e = refused-not-counted (sym e)
 
-  pub picture-not-3 : (body work image : List ℕ) → unpackPicture header w h body work image .answer ≡ refused 3 → ⊥
+  pub picture-not-3 : (body work image : List ℕ) → unpackTo form header w h body work image .answer ≡ refused 3 → ⊥
   unfolding unpackRle unpackRaw writeImage imageFromWork
-  picture-not-3 body work image e = by-checks (checkPicture header w h (length body) (length work) (length image)) refl
+  picture-not-3 body work image e = by-checks (checkPicture form header w h (length body) (length work) (length image)) refl
     where
-      planes : (u : PlanesOutcome) → (u .answer ≡ refused 3 → ⊥) → imageFromWork header w h (u .work) image (u .answer) .answer ≡ refused 3 → ⊥
+      planes : (u : PlanesOutcome) → (u .answer ≡ refused 3 → ⊥) → imageFromWork form header w h (u .work) image (u .answer) .answer ≡ refused 3 → ⊥
       planes u k e = go (u .answer) k e
         where
-          go : (a : Answer) → (a ≡ refused 3 → ⊥) → imageFromWork header w h (u .work) image a .answer ≡ refused 3 → ⊥
+          go : (a : Answer) → (a ≡ refused 3 → ⊥) → imageFromWork form header w h (u .work) image a .answer ≡ refused 3 → ⊥
           go (counted n) k e = refused-not-counted (sym e)
           go (refused r) k e = k e
 
-      read : (n : ℕ) → checkPicture header w h (length body) (length work) (length image) ≡ counted n → (b : Bool) → header .«enable_rle_compression» ≡ b → ⊥
+      read : (n : ℕ) → checkPicture form header w h (length body) (length work) (length image) ≡ counted n → (b : Bool) → header .«enable_rle_compression» ≡ b → ⊥
       read n et true eb =
-          planes (unpackPlanes (planesOf header w h) work body) (λ z. not-3 (planes-number (planesOf header w h) work body 3 z))
-          (sym (ap (λ (p : PictureOutcome). p .answer) (unpackPicture-rle header w h body work image n et eb)) ∙ e)
-      read n et false eb = refused-not-counted (sym (sym (ap (λ (p : PictureOutcome). p .answer) (unpackPicture-raw header w h body work image n et eb)) ∙ e))
+          planes (unpackPlanes (planesWithAlphaAt (alphaOffset form header w h) header w h) work body) (λ z. not-3 (planes-number (planesWithAlphaAt (alphaOffset form header w h) header w h) work body 3 z))
+          (sym (ap (λ (p : PictureOutcome). p .answer) (unpackTo-rle form header w h body work image n et eb)) ∙ e)
+      read n et false eb = refused-not-counted (sym (sym (ap (λ (p : PictureOutcome). p .answer) (unpackTo-raw form header w h body work image n et eb)) ∙ e))
 
-      by-checks : (a : Answer) → checkPicture header w h (length body) (length work) (length image) ≡ a → ⊥
+      by-checks : (a : Answer) → checkPicture form header w h (length body) (length work) (length image) ≡ a → ⊥
       by-checks (refused r) et =
-          let same : refused r ≡ refused 3 = sym (ap (λ (p : PictureOutcome). p .answer) (unpackPicture-refused header w h body work image r et)) ∙ e in
+          let same : refused r ≡ refused 3 = sym (ap (λ (p : PictureOutcome). p .answer) (unpackTo-refused form header w h body work image r et)) ∙ e in
           checks-not-3 (length body) (length work) (length image) (et ∙ same)
       by-checks (counted n) et = read n et (header .«enable_rle_compression») refl
 
 -- ---- a stream
 
-pub stream-not-3 : (w h : ℕ) (stream work image : List ℕ) → unpackStream w h stream work image .answer ≡ refused 3 → ⊥
+pub stream-not-3 : (form : PixelForm) (w h : ℕ) (stream work image : List ℕ) → unpackStreamTo form w h stream work image .answer ≡ refused 3 → ⊥
 unfolding unpackStreamBy splitStream unpackSplit splitRest
-stream-not-3 w h [] work image e = not-refused-3 13 (λ z. omega arith) e
-stream-not-3 w h (byte ∷ rest) work image e = go (headerFromByte byte .«enable_rle_compression») rest e
+stream-not-3 form w h [] work image e = not-refused-3 13 (λ z. omega arith) e
+stream-not-3 form w h (byte ∷ rest) work image e = go (headerFromByte byte .«enable_rle_compression») rest e
   where
-    go : (rle : Bool) (rest : List ℕ) → unpackSplit (λ (header : BitmapStreamHeader) (body : List ℕ). unpackPicture header w h body work image) work image (splitRest (headerFromByte byte) rle rest) .answer ≡ refused 3 → ⊥
-    go true rest e = picture-not-3 (headerFromByte byte) w h (read-level-valid byte) _ work image e
+    go : (rle : Bool) (rest : List ℕ) → unpackSplit (λ (header : BitmapStreamHeader) (body : List ℕ). unpackTo form header w h body work image) work image (splitRest (headerFromByte byte) rle rest) .answer ≡ refused 3 → ⊥
+    go true rest e = picture-not-3 form (headerFromByte byte) w h (read-level-valid byte) _ work image e
     go false [] e = not-refused-3 14 (λ z. omega arith) e
-    go false (b ∷ rest) e = picture-not-3 (headerFromByte byte) w h (read-level-valid byte) _ work image e
+    go false (b ∷ rest) e = picture-not-3 form (headerFromByte byte) w h (read-level-valid byte) _ work image e

@@ -9,9 +9,13 @@ use mir.Val.{Fits}
 use mir.Syntax.{w64}
 use Rattle.rle_format.specs.Choice.{choose}
 use Rattle.rle_format.proofs.Plane.{area-max}
+use Rattle.pixel_format.specs.declared.PixelFormat.{PixelFormat}
+use Rattle.pixel_format.specs.declared.PixelFormat.the-variants.{FourBytes}
+use Rattle.pixel_format.specs.declared.PixelLayout.{PixelLayout}
 use Rattle.bitmap_format.specs.declared.BitmapStreamHeader.{BitmapStreamHeader}
-use Rattle.bitmap_format.specs.Planes.{planeAt, subsampled, chromaSide, firstPlane, secondPlane, thirdPlane, colourPlanes, alphaPlanes, planesOf}
-use Rattle.bitmap_format.specs.Sizes.{sampleCount, minPlaneSize, sumOver, minBodySize, workSize, imageSize}
+use Rattle.bitmap_format.specs.Planes.{planeAt, subsampled, chromaSide, firstPlane, secondPlane, thirdPlane, colourPlanes, alphaPlanesAt, alphaPlanes, planesWithAlphaAt}
+use Rattle.bitmap_format.specs.Pixels.{PixelForm, threeBytes, fourBytes, formatToForm, bytesPerPixel, shownAlphaSize}
+use Rattle.bitmap_format.specs.Sizes.{sampleCount, minPlaneSize, sumOver, minBodySize, colourPlanesSize, workSize, imageSize}
 
 -- ---- a choice whose test is known
 
@@ -73,7 +77,7 @@ pub minBodySize-planes : (header : BitmapStreamHeader) (w h : ℕ)
     → minBodySize header w h
     ≡ choose (header .«use_alpha») (minSize (header .«enable_rle_compression») w h) 0
     + sumOver (minPlaneSize (header .«enable_rle_compression»)) (colourPlanes (subsampled (header .«color_plane_definition»)) w h)
-unfolding minBodySize planesOf alphaPlanes sumOver
+unfolding minBodySize planesWithAlphaAt alphaPlanesAt sumOver
 minBodySize-planes header w h = go (header .«use_alpha»)
   where
     go : (alpha : Bool)
@@ -95,16 +99,21 @@ minBodySize-sides header w h =
     ∙ ap (λ (n : ℕ). choose (header .«use_alpha») (minSize (header .«enable_rle_compression») w h) 0 + n) (colour-sum-sides (header .«enable_rle_compression») (subsampled (header .«color_plane_definition»)) w h)
 
 -- a raw picture needs no work area
-pub workSize-raw : (header : BitmapStreamHeader) (w h : ℕ) → header .«enable_rle_compression» ≡ false → workSize header w h ≡ 0
+pub workSize-raw : (form : PixelForm) (header : BitmapStreamHeader) (w h : ℕ) → header .«enable_rle_compression» ≡ false → workSize form header w h ≡ 0
 unfolding workSize
-workSize-raw header w h e = choose-false _ _ _ e
+workSize-raw form header w h e = choose-false _ _ _ e
 
--- that of an RLE picture has room for the samples of the colour planes
-pub workSize-rle : (header : BitmapStreamHeader) (w h : ℕ) → header .«enable_rle_compression» ≡ true
-    → workSize header w h
+-- that of an RLE picture has room for the samples of the colour planes, and of alpha if it is shown
+pub workSize-rle : (form : PixelForm) (header : BitmapStreamHeader) (w h : ℕ) → header .«enable_rle_compression» ≡ true
+    → workSize form header w h ≡ shownAlphaSize form (header .«use_alpha») w h + colourPlanesSize header w h
+unfolding workSize
+workSize-rle form header w h e = choose-true _ _ _ e
+
+pub colourPlanesSize-sides : (header : BitmapStreamHeader) (w h : ℕ)
+    → colourPlanesSize header w h
     ≡ w * h + 2 * (chromaSide (subsampled (header .«color_plane_definition»)) w * chromaSide (subsampled (header .«color_plane_definition»)) h)
-unfolding workSize sumOver colourPlanes firstPlane secondPlane thirdPlane
-workSize-rle header w h e = omega (arith, choose-true (header .«enable_rle_compression») (sumOver sampleCount (colourPlanes (subsampled (header .«color_plane_definition»)) w h)) 0 e)
+unfolding colourPlanesSize sumOver colourPlanes firstPlane secondPlane thirdPlane
+colourPlanesSize-sides header w h = omega arith
 
 -- ---- what the code adds up
 
@@ -135,16 +144,29 @@ module _ (header : BitmapStreamHeader) (w h : ℕ) (s : Bool) (es : s ≡ subsam
       → colour ≡ minBodySize header w h
   minBodySize-no-alpha colour e ec = sym (zero-add colour) ∙ minBodySize-of false colour e ec
 
-  -- the work area of an RLE picture
-  pub workSize-colour : (colour : ℕ) → header .«enable_rle_compression» ≡ true → colour ≡ sumOver (minPlaneSize false) (colourPlanes s w h) → colour ≡ workSize header w h
-  unfolding workSize
-  workSize-colour colour e ec = colour-subsampled false colour ec ∙ sym (choose-true _ _ _ e)
+  -- the colour planes by themselves, and the work area of an RLE picture
+  pub colourPlanesSize-of : (colour : ℕ) → colour ≡ sumOver (minPlaneSize false) (colourPlanes s w h) → colour ≡ colourPlanesSize header w h
+  unfolding colourPlanesSize
+  colourPlanesSize-of colour ec = colour-subsampled false colour ec
+
+  pub workSize-of : (form : PixelForm) (alpha colour : ℕ) → header .«enable_rle_compression» ≡ true → alpha ≡ shownAlphaSize form (header .«use_alpha») w h
+      → colour ≡ sumOver (minPlaneSize false) (colourPlanes s w h) → alpha + colour ≡ workSize form header w h
+  workSize-of form alpha colour e ea ec = (λ i. ea i + colourPlanesSize-of colour ec i) ∙ sym (workSize-rle form header w h e)
+
+-- alpha that four-byte pixels show
+module _ (format : PixelFormat) (layout : PixelLayout) (flagged : Bool) (w h : ℕ) (four : format ≡ FourBytes layout) where
+  pub shown-flagged : flagged ≡ true → w * h ≡ shownAlphaSize (formatToForm format) flagged w h
+  shown-flagged e = sym (λ i. shownAlphaSize (formatToForm (four i)) (e i) w h)
+
+  pub shown-unflagged : flagged ≡ false → 0 ≡ shownAlphaSize (formatToForm format) flagged w h
+  shown-unflagged e = sym (λ i. shownAlphaSize (formatToForm (four i)) (e i) w h)
 
 -- ---- the image
 
-pub imageSize-max : (w h : ℕ) → w ≤ 8192 → h ≤ 8192 → imageSize w h ≤ 201326592
+pub bytesPerPixel-max : (form : PixelForm) → bytesPerPixel form ≤ 4
+bytesPerPixel-max threeBytes = omega arith
+bytesPerPixel-max (fourBytes p) = omega arith
+
+pub imageSize-max : (form : PixelForm) (w h : ℕ) → w ≤ 8192 → h ≤ 8192 → imageSize form w h ≤ 268435456
 unfolding imageSize
-imageSize-max w h lw lh = mul-le-mul (three w lw) lh
-  where
-    three : (n : ℕ) → n ≤ 8192 → 3 * n ≤ 24576
-    three n l = omega arith
+imageSize-max form w h lw lh = mul-le-mul (mul-le-mul (bytesPerPixel-max form) lw) lh

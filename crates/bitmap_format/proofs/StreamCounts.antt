@@ -10,23 +10,24 @@ use Rattle.rle_format.specs.Segment.{segmentsBytes}
 use Rattle.rle_format.proofs.Answer.{refused-not-counted}
 use Rattle.bitmap_format.specs.declared.BitmapStreamHeader.{BitmapStreamHeader}
 use Rattle.bitmap_format.specs.HeaderByte.{headerFromByte}
-use Rattle.bitmap_format.specs.Picture.{unpackPicture}
+use Rattle.bitmap_format.specs.Pixels.{PixelForm}
+use Rattle.bitmap_format.specs.Picture.{unpackTo}
 use Rattle.bitmap_format.specs.PackPicture.{pictureSegments, checkPack, packPicture, headerToSend}
-use Rattle.bitmap_format.specs.Stream.{splitRest, splitStream, unpackSplit, unpackStreamBy, unpackStream, withHeaderByte, packStream, packPictureStream}
+use Rattle.bitmap_format.specs.Stream.{splitRest, splitStream, unpackSplit, unpackStreamBy, unpackStreamTo, withHeaderByte, packStream, packPictureStream}
 use Rattle.bitmap_format.proofs.Picture.{image-count-max}
 use Rattle.bitmap_format.proofs.PackRoom.{packPicture-within, packPicture-two-bytes-enough}
 use Rattle.bitmap_format.proofs.StreamClaims.{picture-gives-back}
 
-pub stream-image-count-max : (w h : ℕ) (stream work image : List ℕ) (n : ℕ) → unpackStream w h stream work image .answer ≡ counted n → n ≤ 201326592
+pub stream-image-count-max : (form : PixelForm) (w h : ℕ) (stream work image : List ℕ) (n : ℕ) → unpackStreamTo form w h stream work image .answer ≡ counted n → n ≤ 268435456
 unfolding unpackStreamBy splitStream unpackSplit splitRest
-stream-image-count-max w h [] work image n e = refused-not-counted e
-stream-image-count-max w h (byte ∷ rest) work image n e = go (headerFromByte byte .«enable_rle_compression») rest e
+stream-image-count-max form w h [] work image n e = refused-not-counted e
+stream-image-count-max form w h (byte ∷ rest) work image n e = go (headerFromByte byte .«enable_rle_compression») rest e
   where
-    go : (rle : Bool) (rest : List ℕ) → unpackSplit (λ (header : BitmapStreamHeader) (body : List ℕ). unpackPicture header w h body work image) work image (splitRest (headerFromByte byte) rle rest) .answer ≡ counted n
-        → n ≤ 201326592
-    go true rest e = image-count-max (headerFromByte byte) w h _ work image n e
+    go : (rle : Bool) (rest : List ℕ) → unpackSplit (λ (header : BitmapStreamHeader) (body : List ℕ). unpackTo form header w h body work image) work image (splitRest (headerFromByte byte) rle rest) .answer ≡ counted n
+        → n ≤ 268435456
+    go true rest e = image-count-max form (headerFromByte byte) w h _ work image n e
     go false [] e = refused-not-counted e
-    go false (b ∷ rest) e = image-count-max (headerFromByte byte) w h _ work image n e
+    go false (b ∷ rest) e = image-count-max form (headerFromByte byte) w h _ work image n e
 
 pub packed-stream-within : (alpha rle : Bool) (w h : ℕ) (planes : List (List ℕ)) (dst : List ℕ) (n : ℕ) → packPictureStream alpha rle w h planes dst .answer ≡ counted n
     → n ≤ 1 + (length dst - 1)

@@ -12,6 +12,7 @@ use Rattle.bitmap_format.specs.declared.ColorPlaneDefinition.{ColorPlane
 use Rattle.bitmap_format.specs.declared.ColorPlaneDefinition.the-variants.{Argb, AYCoCg}
 use Rattle.bitmap_format.specs.declared.Decoded.{Decoded}
 use Rattle.bitmap_format.specs.declared.Decoded.the-variants.{Written, Refused}
+use Rattle.bitmap_format.specs.Pixels.{threeBytes}
 use Rattle.bitmap_format.specs.Sizes.{minBodySize, workSize, imageSize}
 use Rattle.bitmap_format.specs.Picture.{PictureOutcome, checkPicture, unpackPicture, decodedToAnswer}
 
@@ -43,13 +44,13 @@ imageAndAnswer o = record { slice = o .image; answer = o .answer }
 -- what the definitions compute; work area and image have the lengths that they have afterwards
 abbrev pub computed : Example → List planes.After
 computed (plane e) = planes.computed e
-computed (unpacksTo header w h body image) = imageAndAnswer (unpacked header w h body (workSize header w h) (length image)) ∷ []
+computed (unpacksTo header w h body image) = imageAndAnswer (unpacked header w h body (workSize threeBytes header w h) (length image)) ∷ []
 computed (unpacks header w h body work image a) =
     planes.values (unpacked header w h body (length work) (length image) .work)
     ∷ imageAndAnswer (unpacked header w h body (length work) (length image))
     ∷ []
-computed (sizes header w h body work image) = planes.values (minBodySize header w h ∷ workSize header w h ∷ imageSize w h ∷ []) ∷ []
-computed (checks header w h body work image a) = planes.onlyAnswer (checkPicture header w h body work image) ∷ []
+computed (sizes header w h body work image) = planes.values (minBodySize header w h ∷ workSize threeBytes header w h ∷ imageSize threeBytes w h ∷ []) ∷ []
+computed (checks header w h body work image a) = planes.onlyAnswer (checkPicture threeBytes header w h body work image) ∷ []
 computed (unpackAnswer d a) = planes.onlyAnswer (decodedToAnswer d) ∷ []
 
 -- what is expected

@@ -13,3 +13,4 @@ pub mod StreamClaims
 pub mod Examples
 pub mod PackExamples
 pub mod StreamExamples
+pub mod PixelExamples

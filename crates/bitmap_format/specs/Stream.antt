@@ -8,9 +8,9 @@ use Rattle.rle_format.specs.Slice.{overwrite}
 use Rattle.pixel_format.specs.Channel.{ChannelOffsets}
 use Rattle.bitmap_format.specs.declared.BitmapStreamHeader.{BitmapStreamHeader}
 use Rattle.bitmap_format.specs.HeaderByte.{headerFromByte, headerToByte}
-use Rattle.bitmap_format.specs.Pixels.{PixelForm}
+use Rattle.bitmap_format.specs.Pixels.{PixelForm, threeBytes, fourBytes}
 use Rattle.bitmap_format.specs.Sizes.{workSize}
-use Rattle.bitmap_format.specs.Picture.{PictureOutcome, refusedPicture, unpackPicture, unpackPixels}
+use Rattle.bitmap_format.specs.Picture.{PictureOutcome, refusedPicture, unpackTo}
 use Rattle.bitmap_format.specs.PackPicture.{checkPack, packPicture, headerToSend}
 
 -- ---- unpacking
@@ -44,15 +44,18 @@ unpackSplit unpack work image (splitRefused r) = refusedPicture work image r
 unfoldable pub unpackStreamBy : (unpack : BitmapStreamHeader → List ℕ → PictureOutcome) (work image stream : List ℕ) → PictureOutcome
 unpackStreamBy unpack work image stream = unpackSplit unpack work image (splitStream stream)
 
--- unpacking a stream to R, G and B
-abbrev pub unpackStream : (width height : ℕ) (stream work image : List ℕ) → PictureOutcome
-unpackStream width height stream work image =
-    unpackStreamBy (λ (header : BitmapStreamHeader) (body : List ℕ). unpackPicture header width height body work image) work image stream
+-- unpacking a stream to pixels of either form
+abbrev pub unpackStreamTo : PixelForm → (width height : ℕ) (stream work image : List ℕ) → PictureOutcome
+unpackStreamTo form width height stream work image =
+    unpackStreamBy (λ (header : BitmapStreamHeader) (body : List ℕ). unpackTo form header width height body work image) work image stream
 
--- unpacking a stream to four-byte pixels
+-- to R, G and B
+abbrev pub unpackStream : (width height : ℕ) (stream work image : List ℕ) → PictureOutcome
+unpackStream width height stream work image = unpackStreamTo threeBytes width height stream work image
+
+-- to four-byte pixels with R, G, B and A at these offsets
 abbrev pub unpackPixelStream : ChannelOffsets → (width height : ℕ) (stream work image : List ℕ) → PictureOutcome
-unpackPixelStream p width height stream work image =
-    unpackStreamBy (λ (header : BitmapStreamHeader) (body : List ℕ). unpackPixels p header width height body work image) work image stream
+unpackPixelStream p width height stream work image = unpackStreamTo (fourBytes p) width height stream work image
 
 -- the minimum size of the work area (FORMAT 2.5), 0 for an empty stream
 unfoldable pub streamWorkSize : PixelForm → (width height : ℕ) (stream : List ℕ) → ℕ

@@ -8,9 +8,10 @@ use Rattle.rle_format.specs.Answer.{Answer, counted, refused, Outcome, addCount
 use Rattle.rle_format.specs.Slice.{overwrite}
 use Rattle.bitmap_format.specs.declared.BitmapStreamHeader.{BitmapStreamHeader}
 use Rattle.bitmap_format.specs.HeaderByte.{headerFromByte, headerToByte}
+use Rattle.bitmap_format.specs.Pixels.{PixelForm}
 use Rattle.bitmap_format.specs.Picture.{isLossLevelInvalid}
 use Rattle.bitmap_format.specs.PackPicture.{packPicture, headerToSend}
-use Rattle.bitmap_format.specs.Stream.{split, withoutPad, splitStream, unpackStream, packStream, packPictureStream}
+use Rattle.bitmap_format.specs.Stream.{split, withoutPad, splitStream, unpackStreamTo, packStream, packPictureStream}
 
 -- ---- the header byte
 
@@ -34,9 +35,9 @@ TopBitsWritten0 = (h : BitmapStreamHeader) → headerToByte h < 64
 
 -- ---- unpacking
 
--- no stream is refused with 3
+-- no stream is refused with 3, to pixels of either form
 abbrev pub NeverRefusal3 : Type 0
-NeverRefusal3 = (w h : ℕ) (stream work image : List ℕ) → unpackStream w h stream work image .answer ≡ refused 3 → ⊥
+NeverRefusal3 = (form : PixelForm) (w h : ℕ) (stream work image : List ℕ) → unpackStreamTo form w h stream work image .answer ≡ refused 3 → ⊥
 
 -- ---- packing
 

@@ -11,6 +11,7 @@ use Rattle.bitmap_format.specs.declared.ColorPlaneDefinition.the-variant
 use Rattle.bitmap_format.specs.HeaderByte.{headerFromByte, headerToByte}
 use Rattle.bitmap_format.specs.Picture.{PictureOutcome}
 use Rattle.bitmap_format.specs.PackPicture.{threePlanes, fourPlanes}
+use Rattle.bitmap_format.specs.Pixels.{threeBytes}
 use Rattle.bitmap_format.specs.Stream.{unpackStream, streamWorkSize, StreamOutcome, packPictureStream}
 use Rattle.bitmap_format.specs.Examples.{header, argb, unwritten}
 
@@ -42,7 +43,7 @@ abbrev pub computed : Example → Result
 computed (readsHeaders bytes hs) = headers (map headerFromByte bytes)
 computed (writesHeaders hs bytes) = numbers (map headerToByte hs)
 computed (unpacks w h stream work image a) = afterUnpacking (unpackStream w h stream (unwritten (length work)) (unwritten (length image)))
-computed (workSizes w h streams sizes) = numbers (map (streamWorkSize w h) streams)
+computed (workSizes w h streams sizes) = numbers (map (streamWorkSize threeBytes w h) streams)
 computed (packs alpha rle w h planes slice a) = afterPacking (packPictureStream alpha rle w h planes (unwritten (length slice)))
 
 -- what is expected
