@@ -4,6 +4,7 @@ ghost use mathlib.Core.Path.{_≡_};
 ghost use Prim.Native.Nat.{_≤_};
 ghost use Rattle.rle_format.specs.Answer.{counted};
 ghost use Rattle.bitmap_format.specs.Checks.{firstRefusal};
+ghost use Rattle.bitmap_format.specs.Pixels.{formatToForm};
 ghost use Rattle.bitmap_format.specs.Sizes.{imageSize};
 ghost use Rattle.bitmap_format.specs.Picture.{isLossLevelInvalid, pictureChecks, checkPicture, decodedToAnswer};
 use bitmap_format::BitmapStreamHeader;
@@ -12,6 +13,7 @@ use bitmap_format::Decoded;
 use bitmap_format::image_size;
 use bitmap_format::min_body_size;
 use bitmap_format::work_size;
+use pixel_format::PixelFormat;
 use rle_format::MAX_SIDE;
 use rle_format::Refusal;
 
@@ -31,6 +33,7 @@ fn is_loss_level_invalid(definition: ColorPlaneDefinition) -> bool
 // The first of refusals 1 to 6, given the lengths of body, work area and image; or else the size of the image, which is the answer of the picture
 // unless one of its planes is refused.
 pub fn first_refusal(
+    format: PixelFormat,
     header: BitmapStreamHeader,
     width: usize,
     height: usize,
@@ -38,7 +41,7 @@ pub fn first_refusal(
     work: usize,
     image: usize,
 ) -> Decoded
-    ensures { λ r. ⌜ decodedToAnswer r ≡ checkPicture header width height body work image ⌝ }
+    ensures { λ r. ⌜ decodedToAnswer r ≡ checkPicture (formatToForm format) header width height body work image ⌝ }
 {
     if width == 0 {
         return Decoded::Refused(Refusal::ZeroSize);
@@ -52,11 +55,12 @@ pub fn first_refusal(
     if MAX_SIDE < height {
         return Decoded::Refused(Refusal::TooLarge);
     }
-    check_slices(header, width, height, body, work, image)
+    check_slices(format, header, width, height, body, work, image)
 }
 
 // The same for sides that passed refusals 1 and 2.
 fn check_slices(
+    format: PixelFormat,
     header: BitmapStreamHeader,
     width: usize,
     height: usize,
@@ -65,13 +69,13 @@ fn check_slices(
     image: usize,
 ) -> Decoded
     requires { ⌜ (width ≡ 0 → ⊥) × (height ≡ 0 → ⊥) × (width ≤ 8192) × (height ≤ 8192) ⌝ }
-    ensures { λ r. ⌜ decodedToAnswer r ≡ firstRefusal (pictureChecks header width height body work image) (counted (imageSize width height)) ⌝ }
+    ensures { λ r. ⌜ decodedToAnswer r ≡ firstRefusal (pictureChecks (formatToForm format) header width height body work image) (counted (imageSize (formatToForm format) width height)) ⌝ }
 {
     let definition = header.color_plane_definition;
     let loss_level_is_invalid = is_loss_level_invalid(definition);
     let min_body = min_body_size(header, width, height);
-    let min_work = work_size(header, width, height);
-    let min_image = image_size(width, height);
+    let min_work = work_size(format, header, width, height);
+    let min_image = image_size(format, width, height);
     if loss_level_is_invalid {
         return Decoded::Refused(Refusal::LossLevel);
     }

@@ -3,8 +3,8 @@ use Rattle.bitmap_format.specs.Picture.{checkPicture}
 use mathlib.Core.Path.{sym, _∙_}
 use Rattle.rle_format.proofs.Sides.{zero-width, zero-height, too-wide, too-high, sides-allowed}
 use borrow.Author.Needs.{needs}
-use Rattle.bitmap_refusals.proofs.first_refusal.Statement.{statement}
-use Rattle.bitmap_refusals.proofs.first_refusal.Tie as tie
+use Rattle.bitmap_checks.proofs.first_refusal.Statement.{statement}
+use Rattle.bitmap_checks.proofs.first_refusal.Tie as tie
 
 returns : tie.Need-returns
 unfolding checkPicture
