@@ -1,23 +1,30 @@
 -- `decompress_color_planes`: before each plane, what is left is what was to do (`PlanesInvariant` of bitmap_format's
 -- UnpackPlanes.antt). Assumes nothing.
-use Prim.Native.Nat.{_+_, _*_}
+use Prim.Native.Nat.{_+_, _*_, _≤_}
 use mathlib.Core.List.{[], _∷_}
 use native.Mathlib.Omega.{arith}
 use lib.ListN.{length}
 use Rattle.rle_format.proofs.Plane.{area-max}
 use Rattle.bitmap_format.specs.Planes.{planeAt, colourPlanes}
+use Rattle.bitmap_format.proofs.Sizes.{chromaSide-max}
 use Rattle.bitmap_format.proofs.UnpackPlanes.{PlanesInvariant, planes-start}
-use Rattle.bitmap_decoder.proofs.ImageLoop.{Areas, areas}
-use Rattle.bitmap_decoder.proofs.PlaneSequence.{planes-step-read, planes-step-refused, planes-last-read, colour-planes-are}
+use Rattle.bitmap_planes.proofs.PlaneSequence.{plane-read-sides, planes-step-read, planes-step-refused, planes-last-read, colour-planes-are}
 use borrow.Author.Needs.{needs}
-use Rattle.bitmap_decoder.proofs.planes.decompress_color_planes.Statement.{statement}
-use Rattle.bitmap_decoder.proofs.planes.decompress_color_planes.Tie as tie
+use Rattle.bitmap_planes.proofs.decompress_color_planes.Statement.{statement}
+use Rattle.bitmap_planes.proofs.decompress_color_planes.Tie as tie
 
--- the sizes of the planes
-sizes : (c : tie.After-chroma-side2) → Areas (c .before .before .before .before .args .width) (c .before .before .before .before .args .height) (c .before .chroma-side .result) (c .chroma-side2 .result) (length (c .before .before .before .before .args .work .now))
+-- the first plane was read, so the products of the sides have bounds
+sizes : (c : tie.After-first)
+    → (c .before .before .before .before .before .before .before .before .before .before .args .width * c .before .before .before .before .before .before .before .before .before .before .args .height ≤ 67108864)
+    × (c .before .before .before .before .before .before .before .chroma-side .result * c .before .before .before .before .before .before .chroma-side2 .result ≤ 67108864)
 sizes c =
-    let s = (c .before .before .before .before) in
-    areas (s .args .subsampling) (s .args .width) (s .args .height) _ _ _ (s .pre .1) (s .pre .2) (c .before .chroma-side .ensures) (c .chroma-side2 .ensures) (s .pre .3)
+    let a = c .before .before .before .before .before .before .before .before .before .before .args in
+    let d = c .before .before .before .before .decompress-next-plane in
+    let cw = c .before .before .before .before .before .before .before .chroma-side in
+    let ch = c .before .before .before .before .before .before .chroma-side2 in
+    let s = plane-read-sides (a .width) (a .height) 0 (a .body .now) (a .work .now) (d .last .1 .1 .0) (a .from) (d .result) (c .first .given .0 .0) (d .ensures) (c .first .given .1) in
+    (area-max (a .width) (a .height) (s .0) (s .1),
+    area-max (cw .result) (ch .result) (omega (arith, cw .ensures, chromaSide-max (a .subsampling) (a .width))) (omega (arith, ch .ensures, chromaSide-max (a .subsampling) (a .height))))
 
 -- what is left before the first plane, and after each of the next two
 head1 : (c : tie.After-chroma-side2)
@@ -29,7 +36,7 @@ head1 : (c : tie.After-chroma-side2)
     (c .before .before .before .before .args .body .now) (c .before .before .before .before .args .work .now) (c .before .before .before .before .args .work .now) (c .before .before .before .before .args .from) (c .before .before .before .before .args .from)
 head1 c =
     let s = (c .before .before .before .before) in
-    planes-start _ _ _ _ _ (colour-planes-are (s .args .subsampling) (s .args .width) (s .args .height) _ _ (c .before .chroma-side .ensures) (c .chroma-side2 .ensures)) (s .pre .0)
+    planes-start _ _ _ _ _ (colour-planes-are (s .args .subsampling) (s .args .width) (s .args .height) _ _ (c .before .chroma-side .ensures) (c .chroma-side2 .ensures)) (s .pre)
 
 head2 : (c : tie.After-first)
     → PlanesInvariant (colourPlanes (c .before .before .before .before .before .before .before .before .before .before .args .subsampling) (c .before .before .before .before .before .before .before .before .before .before .args .width) (c .before .before .before .before .before .before .before .before .before .before .args .height))
@@ -53,9 +60,7 @@ head3 c =
     (head2 ((c .before .before .before .before .before .before .before))) (d .ensures) (c .second .given .0 .0) (c .second .given .1) (d .kept .1 .1 .0)
 
 mul-full : tie.Need-mul-full
-mul-full c =
-    let s = (c .before .before) in
-    omega (arith, area-max (s .args .width) (s .args .height) (s .pre .1) (s .pre .2))
+mul-full c = omega (arith, sizes (c .before))
 
 chroma-side-requires : tie.Need-chroma-side-requires
 chroma-side-requires c κs = search needs
@@ -84,7 +89,7 @@ returns c =
 decompress-next-plane-requires-2 : tie.Need-decompress-next-plane-requires-2
 decompress-next-plane-requires-2 c κs =
     let h = head2 ((c .before .before)) in
-    (h .low, omega (arith, h .len, sizes ((c .before .before .before .before .before .before .before .before))))
+    h .low
 
 enum-known-second : tie.Need-enum-known-second
 enum-known-second c = search needs
@@ -103,15 +108,15 @@ returns-2 c =
     (head2 ((c .before .before .before .before .before .before .before))) (d .ensures) (c .enum-told2 .given .0 .0) (c .enum-told2 .given .1)
 
 mul-offset : tie.Need-mul-offset
-mul-offset c = omega (arith, sizes ((c .before .before .before .before .before .before .before .before .before .before .before .before .before .before)))
+mul-offset c = omega (arith, sizes (c .before .before .before .before .before .before .before .before))
 
 add-offset : tie.Need-add-offset
-add-offset c = omega (arith, sizes ((c .before .before .before .before .before .before .before .before .before .before .before .before .before .before)))
+add-offset c = omega (arith, sizes (c .before .before .before .before .before .before .before .before))
 
 decompress-next-plane-requires-3 : tie.Need-decompress-next-plane-requires-3
 decompress-next-plane-requires-3 c κs =
     let h = head3 ((c .before .before)) in
-    (h .low, omega (arith, h .len, sizes ((c .before .before .before .before .before .before .before .before .before .before .before .before .before .before .before))))
+    h .low
 
 same-length-3 : tie.Need-same-length-3
 same-length-3 c = search needs
@@ -127,7 +132,6 @@ pub decompress-color-planes-spec : {M : Type 1} → statement M
 decompress-color-planes-spec =
     tie.close
     (tie.spec
-    mul-full
     chroma-side-requires
     chroma-side-requires-2
     decompress-next-plane-requires
@@ -135,6 +139,7 @@ decompress-color-planes-spec =
     enum-told
     same-length
     returns
+    mul-full
     decompress-next-plane-requires-2
     enum-known-second
     enum-told-2
