@@ -13,7 +13,7 @@ use Rattle.bitmap_format.specs.Checks.{firstRefusal}
 use Rattle.bitmap_format.specs.Colour.{signedByte, chromaValue, clip, ycocg, aycocgColour}
 use Rattle.bitmap_format.specs.Planes.{chromaSide, firstPlane, secondPlane, thirdPlane, colourPlanes, alphaPlanesAt, planesWithAlphaAt}
 use Rattle.bitmap_format.specs.Pixels.{alphaAt}
-use Rattle.bitmap_format.specs.Sizes.{sumOver, minBodySize, colourPlanesSize, workSize, rowSize, imageSize}
+use Rattle.bitmap_format.specs.Sizes.{sumOver, minBodySize, workSize, rowSize, imageSize}
 use Rattle.bitmap_format.specs.Image.{sample, chromaIndex, colourAt, concatUpTo, imageRow, writeRows}
 use Rattle.bitmap_format.specs.UnpackPlanes.{addRead, unpackPlanes}
 use Rattle.bitmap_format.specs.Picture.{isLossLevelInvalid, checkPicture, writeImage, unpackRaw, imageFromWork, unpackRle, unpackTo}
@@ -27,7 +27,7 @@ use Rattle.bitmap_format.specs.StreamExamples as streams
 use Rattle.bitmap_format.specs.PixelExamples as pixels
 
 pub examples-hold : map computed examples ≡ map expected examples
-unfolding packPlane writeSegments packing planeSegments codesAt rowAt rowSegments scanSegments splitSegments longRun deltaCode difference unpackPlane unpackRows readRow readSegment rawCount runLength undoDelta differenceFromCode checkSides stop prepend overwrite writeAt firstRefusal signedByte chromaValue clip ycocg aycocgColour chromaSide firstPlane secondPlane thirdPlane colourPlanes alphaPlanesAt planesWithAlphaAt alphaAt sumOver minBodySize colourPlanesSize workSize rowSize imageSize sample chromaIndex colourAt concatUpTo imageRow writeRows addRead unpackPlanes isLossLevelInvalid checkPicture writeImage unpackRaw imageFromWork unpackRle unpackTo
+unfolding packPlane writeSegments packing planeSegments codesAt rowAt rowSegments scanSegments splitSegments longRun deltaCode difference unpackPlane unpackRows readRow readSegment rawCount runLength undoDelta differenceFromCode checkSides stop prepend overwrite writeAt firstRefusal signedByte chromaValue clip ycocg aycocgColour chromaSide firstPlane secondPlane thirdPlane colourPlanes alphaPlanesAt planesWithAlphaAt alphaAt sumOver minBodySize workSize rowSize imageSize sample chromaIndex colourAt concatUpTo imageRow writeRows addRead unpackPlanes isLossLevelInvalid checkPicture writeImage unpackRaw imageFromWork unpackRle unpackTo
 examples-hold = refl
 
 pub pack-examples-hold : map packed.computed packed.examples ≡ map packed.expected packed.examples
@@ -35,9 +35,9 @@ unfolding writeSegments planeSegments codesAt rowAt rowSegments scanSegments spl
 pack-examples-hold = refl
 
 pub stream-examples-hold : map streams.computed streams.examples ≡ map streams.expected streams.examples
-unfolding writeSegments planeSegments codesAt rowAt rowSegments scanSegments splitSegments longRun deltaCode difference unpackPlane unpackRows readRow readSegment rawCount runLength undoDelta differenceFromCode checkSides stop prepend overwrite writeAt firstRefusal signedByte chromaValue clip ycocg aycocgColour chromaSide firstPlane secondPlane thirdPlane colourPlanes alphaPlanesAt planesWithAlphaAt alphaAt sumOver minBodySize colourPlanesSize workSize rowSize imageSize sample chromaIndex colourAt concatUpTo imageRow writeRows addRead unpackPlanes isLossLevelInvalid checkPicture writeImage unpackRaw imageFromWork unpackRle unpackTo pictureSegments rawSamples rawBody writeAllOrNothing anyShort checkPack packBody packPicture headerToSend definitionFromByte headerFromByte definitionBits headerToByte withoutPad splitRest splitStream unpackSplit unpackStreamBy streamWorkSize withHeaderByte packStream
+unfolding writeSegments planeSegments codesAt rowAt rowSegments scanSegments splitSegments longRun deltaCode difference unpackPlane unpackRows readRow readSegment rawCount runLength undoDelta differenceFromCode checkSides stop prepend overwrite writeAt firstRefusal signedByte chromaValue clip ycocg aycocgColour chromaSide firstPlane secondPlane thirdPlane colourPlanes alphaPlanesAt planesWithAlphaAt alphaAt sumOver minBodySize workSize rowSize imageSize sample chromaIndex colourAt concatUpTo imageRow writeRows addRead unpackPlanes isLossLevelInvalid checkPicture writeImage unpackRaw imageFromWork unpackRle unpackTo pictureSegments rawSamples rawBody writeAllOrNothing anyShort checkPack packBody packPicture headerToSend definitionFromByte headerFromByte definitionBits headerToByte withoutPad splitRest splitStream unpackSplit unpackStreamBy streamWorkSize withHeaderByte packStream
 stream-examples-hold = refl
 
 pub pixel-examples-hold : map pixels.computed pixels.examples ≡ map pixels.expected pixels.examples
-unfolding unpackPlane unpackRows readRow readSegment rawCount runLength undoDelta differenceFromCode checkSides stop prepend overwrite writeAt firstRefusal signedByte chromaValue clip ycocg aycocgColour chromaSide firstPlane secondPlane thirdPlane colourPlanes alphaPlanesAt planesWithAlphaAt alphaAt sumOver minBodySize colourPlanesSize workSize rowSize imageSize sample chromaIndex colourAt concatUpTo imageRow writeRows addRead unpackPlanes isLossLevelInvalid checkPicture writeImage unpackRaw imageFromWork unpackRle unpackTo definitionFromByte headerFromByte withoutPad splitRest splitStream unpackSplit unpackStreamBy streamWorkSize
+unfolding unpackPlane unpackRows readRow readSegment rawCount runLength undoDelta differenceFromCode checkSides stop prepend overwrite writeAt firstRefusal signedByte chromaValue clip ycocg aycocgColour chromaSide firstPlane secondPlane thirdPlane colourPlanes alphaPlanesAt planesWithAlphaAt alphaAt sumOver minBodySize workSize rowSize imageSize sample chromaIndex colourAt concatUpTo imageRow writeRows addRead unpackPlanes isLossLevelInvalid checkPicture writeImage unpackRaw imageFromWork unpackRle unpackTo definitionFromByte headerFromByte withoutPad splitRest splitStream unpackSplit unpackStreamBy streamWorkSize
 pixel-examples-hold = refl

@@ -8,6 +8,12 @@ pub mod Image
 pub mod UnpackPlanes
 pub mod PictureChecks
 pub mod Picture
+pub mod Pixels
+pub mod PlanesAlike
+pub mod AlphaKept
+pub mod PixelAt
+pub mod WrittenPicture
+pub mod PictureClaims
 pub mod PackPicture
 pub mod PackRoom
 pub mod HeaderByte

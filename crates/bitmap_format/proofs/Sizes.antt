@@ -112,7 +112,7 @@ workSize-rle form header w h e = choose-true _ _ _ e
 pub colourPlanesSize-sides : (header : BitmapStreamHeader) (w h : ℕ)
     → colourPlanesSize header w h
     ≡ w * h + 2 * (chromaSide (subsampled (header .«color_plane_definition»)) w * chromaSide (subsampled (header .«color_plane_definition»)) h)
-unfolding colourPlanesSize sumOver colourPlanes firstPlane secondPlane thirdPlane
+unfolding sumOver colourPlanes firstPlane secondPlane thirdPlane
 colourPlanesSize-sides header w h = omega arith
 
 -- ---- what the code adds up
@@ -146,7 +146,6 @@ module _ (header : BitmapStreamHeader) (w h : ℕ) (s : Bool) (es : s ≡ subsam
 
   -- the colour planes by themselves, and the work area of an RLE picture
   pub colourPlanesSize-of : (colour : ℕ) → colour ≡ sumOver (minPlaneSize false) (colourPlanes s w h) → colour ≡ colourPlanesSize header w h
-  unfolding colourPlanesSize
   colourPlanesSize-of colour ec = colour-subsampled false colour ec
 
   pub workSize-of : (form : PixelForm) (alpha colour : ℕ) → header .«enable_rle_compression» ≡ true → alpha ≡ shownAlphaSize form (header .«use_alpha») w h

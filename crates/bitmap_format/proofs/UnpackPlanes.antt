@@ -22,7 +22,7 @@ module _ (p : PlaneAt) (planes : List PlaneAt) (work body : List ℕ) where
   unfolding unpackPlanes
   unpackPlanes-read n e = cc e
 
-  unpackPlanes-refused : (r : ℕ) → unpackPlaneAt p work body .answer ≡ refused r → unpackPlanes (p ∷ planes) work body ≡ record { work = workAfter p work body; answer = refused r }
+  pub unpackPlanes-refused : (r : ℕ) → unpackPlaneAt p work body .answer ≡ refused r → unpackPlanes (p ∷ planes) work body ≡ record { work = workAfter p work body; answer = refused r }
   unfolding unpackPlanes
   unpackPlanes-refused r e = cc e
 

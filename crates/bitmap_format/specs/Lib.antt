@@ -6,6 +6,7 @@ pub mod Sizes
 pub mod Image
 pub mod UnpackPlanes
 pub mod Picture
+pub mod PictureClaims
 pub mod PackPicture
 pub mod HeaderByte
 pub mod Stream

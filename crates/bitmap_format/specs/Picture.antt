@@ -14,7 +14,7 @@ use Rattle.bitmap_format.specs.declared.ColorPlaneDefinition.the-variant
 use Rattle.bitmap_format.specs.declared.Decoded.{Decoded}
 use Rattle.bitmap_format.specs.declared.Decoded.the-variants.{Written, Refused}
 use Rattle.bitmap_format.specs.Checks.{Check, check, firstRefusal}
-use Rattle.bitmap_format.specs.Planes.{alphaPlanes, planesWithAlphaAt}
+use Rattle.bitmap_format.specs.Planes.{PlaneAt, alphaPlanes, planesWithAlphaAt}
 use Rattle.bitmap_format.specs.Pixels.{PixelForm, threeBytes, fourBytes}
 use Rattle.bitmap_format.specs.Sizes.{sampleCount, sumOver, minBodySize, alphaOffset, workSize, rowSize, imageSize}
 use Rattle.bitmap_format.specs.Image.{imageRow, writeRows}
@@ -72,10 +72,14 @@ imageFromWork form header width height work image (counted n) =
     writeImage form header width height work (drop (alphaOffset form header width height) work) work image
 imageFromWork form header width height work image (refused r) = refusedPicture work image r
 
+-- the planes of an RLE picture in the order of the body, with alpha where the pixels need it
+abbrev pub planesFor : PixelForm → BitmapStreamHeader → (width height : ℕ) → List PlaneAt
+planesFor form header width height = planesWithAlphaAt (alphaOffset form header width height) header width height
+
 -- an RLE picture (FORMAT 2.4, 2.5)
 unfoldable pub unpackRle : PixelForm → BitmapStreamHeader → (width height : ℕ) (body work image : List ℕ) → PictureOutcome
 unpackRle form header width height body work image =
-    let u : PlanesOutcome = unpackPlanes (planesWithAlphaAt (alphaOffset form header width height) header width height) work body in
+    let u : PlanesOutcome = unpackPlanes (planesFor form header width height) work body in
     imageFromWork form header width height (u .work) image (u .answer)
 
 -- unpacking a picture to pixels of either form: refusals 1 to 6, which change nothing, then 7, 8, 9 (FORMAT 8.2, 8.3)

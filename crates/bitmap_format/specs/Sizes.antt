@@ -26,7 +26,7 @@ unfoldable pub minBodySize : BitmapStreamHeader → (width height : ℕ) → ℕ
 minBodySize header width height = sumOver (minPlaneSize (header .«enable_rle_compression»)) (planesOf header width height)
 
 -- the size of the three colour planes
-unfoldable pub colourPlanesSize : BitmapStreamHeader → (width height : ℕ) → ℕ
+abbrev pub colourPlanesSize : BitmapStreamHeader → (width height : ℕ) → ℕ
 colourPlanesSize header width height = sumOver sampleCount (colourPlanes (subsampled (header .«color_plane_definition»)) width height)
 
 -- where alpha is unpacked to: if the pixels do not show it, to the start of the work area, where the first colour plane overwrites it; else

@@ -22,9 +22,10 @@ sizes c =
     let d = c .before .before .before .before .decompress-next-plane in
     let cw = c .before .before .before .before .before .before .before .chroma-side in
     let ch = c .before .before .before .before .before .before .chroma-side2 in
-    let s = plane-read-sides (a .width) (a .height) 0 (a .body .now) (a .work .now) (d .last .1 .1 .0) (a .from) (d .result) (c .first .given .0 .0) (d .ensures) (c .first .given .1) in
-    (area-max (a .width) (a .height) (s .0) (s .1),
-    area-max (cw .result) (ch .result) (omega (arith, cw .ensures, chromaSide-max (a .subsampling) (a .width))) (omega (arith, ch .ensures, chromaSide-max (a .subsampling) (a .height))))
+    let s = plane-read-sides (a .width) (a .height) 0 (a .body .now) (a .work .now) (d .last .1 .1 .0) (a .from) (d .result) (c .first .given .0 .0) (d .ensures) (c .first .given .1) in (
+      area-max (a .width) (a .height) (s .0) (s .1),
+      area-max (cw .result) (ch .result) (omega (arith, cw .ensures, chromaSide-max (a .subsampling) (a .width))) (omega (arith, ch .ensures, chromaSide-max (a .subsampling) (a .height))),
+    )
 
 -- what is left before the first plane, and after each of the next two
 head1 : (c : tie.After-chroma-side2)
