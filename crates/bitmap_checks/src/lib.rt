@@ -6,29 +6,16 @@ ghost use Rattle.rle_format.specs.Answer.{counted};
 ghost use Rattle.bitmap_format.specs.Checks.{firstRefusal};
 ghost use Rattle.bitmap_format.specs.Pixels.{formatToForm};
 ghost use Rattle.bitmap_format.specs.Sizes.{imageSize};
-ghost use Rattle.bitmap_format.specs.Picture.{isLossLevelInvalid, pictureChecks, checkPicture, decodedToAnswer};
+ghost use Rattle.bitmap_format.specs.Picture.{pictureChecks, checkPicture, decodedToAnswer};
 use bitmap_format::BitmapStreamHeader;
-use bitmap_format::ColorPlaneDefinition;
 use bitmap_format::Decoded;
 use bitmap_format::image_size;
+use bitmap_format::is_loss_level_invalid;
 use bitmap_format::min_body_size;
 use bitmap_format::work_size;
 use pixel_format::PixelFormat;
 use rle_format::MAX_SIDE;
 use rle_format::Refusal;
-
-// Whether the definition is AYCoCg with a loss level outside 1 to 7.
-fn is_loss_level_invalid(definition: ColorPlaneDefinition) -> bool
-    ensures { λ r. ⌜ r ≡ isLossLevelInvalid definition ⌝ }
-{
-    match definition {
-        ColorPlaneDefinition::Argb => false,
-        ColorPlaneDefinition::AYCoCg {
-            color_loss_level,
-            use_chroma_subsampling: _,
-        } => color_loss_level == 0 || 7 < color_loss_level,
-    }
-}
 
 // The first of refusals 1 to 6, given the lengths of body, work area and image; or else the size of the image, which is the answer of the picture
 // unless one of its planes is refused.

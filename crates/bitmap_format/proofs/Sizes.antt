@@ -10,7 +10,7 @@ use mir.Syntax.{w64}
 use Rattle.rle_format.specs.Choice.{choose}
 use Rattle.rle_format.proofs.Plane.{area-max}
 use Rattle.pixel_format.specs.declared.PixelFormat.{PixelFormat}
-use Rattle.pixel_format.specs.declared.PixelFormat.the-variants.{FourBytes}
+use Rattle.pixel_format.specs.declared.PixelFormat.the-variants.{Rgb24, FourBytes}
 use Rattle.pixel_format.specs.declared.PixelLayout.{PixelLayout}
 use Rattle.bitmap_format.specs.declared.BitmapStreamHeader.{BitmapStreamHeader}
 use Rattle.bitmap_format.specs.Planes.{planeAt, subsampled, chromaSide, firstPlane, secondPlane, thirdPlane, colourPlanes, alphaPlanesAt, alphaPlanes, planesWithAlphaAt}
@@ -151,6 +151,10 @@ module _ (header : BitmapStreamHeader) (w h : ℕ) (s : Bool) (es : s ≡ subsam
   pub workSize-of : (form : PixelForm) (alpha colour : ℕ) → header .«enable_rle_compression» ≡ true → alpha ≡ shownAlphaSize form (header .«use_alpha») w h
       → colour ≡ sumOver (minPlaneSize false) (colourPlanes s w h) → alpha + colour ≡ workSize form header w h
   workSize-of form alpha colour e ea ec = (λ i. ea i + colourPlanesSize-of colour ec i) ∙ sym (workSize-rle form header w h e)
+
+-- three-byte pixels show no alpha
+pub shown-three : (format : PixelFormat) (flagged : Bool) (w h : ℕ) → format ≡ Rgb24 → 0 ≡ shownAlphaSize (formatToForm format) flagged w h
+shown-three format flagged w h e = sym (ap (λ (k : PixelFormat). shownAlphaSize (formatToForm k) flagged w h) e)
 
 -- alpha that four-byte pixels show
 module _ (format : PixelFormat) (layout : PixelLayout) (flagged : Bool) (w h : ℕ) (four : format ≡ FourBytes layout) where

@@ -3,17 +3,16 @@
 mod plane_sizes;
 
 ghost use mathlib.Core.Path.{_≡_};
-ghost use Prim.Native.Nat.{ℕ};
+ghost use Prim.Native.Nat.{ℕ, _≤_};
 ghost use Rattle.rle_format.specs.Sides.{checkSides};
 ghost use Rattle.bitmap_format.specs.Planes.{subsampled, chromaSide};
-ghost use Rattle.bitmap_format.specs.Pixels.{formatToForm};
+ghost use Rattle.bitmap_format.specs.Pixels.{formatToForm, bytesPerPixel, shownAlphaSize};
+ghost use Rattle.bitmap_format.specs.Picture.{isLossLevelInvalid};
 ghost use Rattle.bitmap_format.specs.Sizes.{minBodySize, colourPlanesSize, workSize, imageSize};
 use pixel_format::PixelFormat;
-use plane_sizes::bytes_per_pixel;
 use plane_sizes::is_within;
 use plane_sizes::min_color_planes_size;
 use plane_sizes::min_plane_size;
-use plane_sizes::shown_alpha_size;
 use rle_format::Refusal;
 
 // The plane definition (FORMAT 1.3). The names are IronRDP's.
@@ -67,6 +66,19 @@ pub fn has_subsampled_chroma(definition: ColorPlaneDefinition) -> bool
     }
 }
 
+// Whether the definition is AYCoCg with a loss level outside 1 to 7.
+pub fn is_loss_level_invalid(definition: ColorPlaneDefinition) -> bool
+    ensures { λ r. ⌜ r ≡ isLossLevelInvalid definition ⌝ }
+{
+    match definition {
+        ColorPlaneDefinition::Argb => false,
+        ColorPlaneDefinition::AYCoCg {
+            color_loss_level,
+            use_chroma_subsampling: _,
+        } => color_loss_level == 0 || 7 < color_loss_level,
+    }
+}
+
 // A side of a chroma plane, given that of the picture (FORMAT 2.2). This way of rounding up does not overflow.
 pub fn chroma_side(subsampling: bool, side: usize) -> usize
     ensures { λ r. ⌜ r ≡ chromaSide subsampling side ⌝ }
@@ -106,6 +118,24 @@ pub fn color_planes_size(header: BitmapStreamHeader, width: usize, height: usize
     min_color_planes_size(false, subsampling, width, height)
 }
 
+// The size of the alpha plane if the pixels show it, else 0; 0 too if the sides are refused. The second clause bounds it, so that callers can add
+// without overflow.
+pub fn shown_alpha_size(format: PixelFormat, flagged: bool, width: usize, height: usize) -> usize
+    ensures size { λ r. ⌜ r ≡ checkSides (λ (_ : ℕ). 0) width height (shownAlphaSize (formatToForm format) flagged width height) ⌝ }
+    ensures bound { λ r. ⌜ r ≤ 67108864 ⌝ }
+{
+    if !is_within(width, height) {
+        return 0;
+    }
+    let PixelFormat::FourBytes(_) = format else {
+        return 0;
+    };
+    if flagged {
+        return width * height;
+    }
+    0
+}
+
 // The minimum size of the work area, or 0 if the sides are refused. For a raw picture it is 0.
 pub fn work_size(
     format: PixelFormat,
@@ -125,6 +155,17 @@ pub fn work_size(
         return shown_alpha_size(format, header.use_alpha, width, height) + color;
     }
     0
+}
+
+// The second clause bounds the number, so that callers can multiply without overflow.
+pub fn bytes_per_pixel(format: PixelFormat) -> usize
+    ensures bytes { λ r. ⌜ r ≡ bytesPerPixel (formatToForm format) ⌝ }
+    ensures bound { λ r. ⌜ r ≤ 4 ⌝ }
+{
+    match format {
+        PixelFormat::Rgb24 => 3,
+        PixelFormat::FourBytes(_) => 4,
+    }
 }
 
 // The minimum size of the image, or 0 if the sides are refused.

@@ -1,13 +1,11 @@
-// The sizes of planes, given their sides, and of pixels (FORMAT 2.3 to 2.6).
+// The minimum sizes of planes, given their sides (FORMAT 2.3, 2.4).
 ghost use mathlib.Core.Path.{_≡_};
 ghost use mathlib.Core.Bool.{true, false};
 ghost use Prim.Native.Nat.{ℕ, _≤_};
 ghost use Rattle.rle_format.specs.Sides.{checkSides};
-ghost use Rattle.bitmap_format.specs.Pixels.{formatToForm, bytesPerPixel, shownAlphaSize};
 ghost use Rattle.bitmap_format.specs.Planes.{planeAt, colourPlanes};
 ghost use Rattle.bitmap_format.specs.Sizes.{minPlaneSize, sumOver};
 use crate::chroma_side;
-use pixel_format::PixelFormat;
 use rle_format::MAX_SIDE;
 
 // The most values that a segment can have.
@@ -66,35 +64,4 @@ pub(crate) fn min_color_planes_size(
     let chroma_width = chroma_side(subsampling, width);
     let chroma_height = chroma_side(subsampling, height);
     min_plane_size(rle, width, height) + 2 * min_plane_size(rle, chroma_width, chroma_height)
-}
-
-// The size of the alpha plane if the pixels show it, else 0.
-pub(crate) fn shown_alpha_size(
-    format: PixelFormat,
-    flagged: bool,
-    width: usize,
-    height: usize,
-) -> usize
-    requires { ⌜ (width ≤ 8192) × (height ≤ 8192) ⌝ }
-    ensures size { λ r. ⌜ r ≡ shownAlphaSize (formatToForm format) flagged width height ⌝ }
-    ensures bound { λ r. ⌜ r ≤ 67108864 ⌝ }
-{
-    let PixelFormat::FourBytes(_) = format else {
-        return 0;
-    };
-    if flagged {
-        return width * height;
-    }
-    0
-}
-
-// The second clause bounds it, so that callers can multiply without overflow.
-pub(crate) fn bytes_per_pixel(format: PixelFormat) -> usize
-    ensures bytes { λ r. ⌜ r ≡ bytesPerPixel (formatToForm format) ⌝ }
-    ensures bound { λ r. ⌜ r ≤ 4 ⌝ }
-{
-    match format {
-        PixelFormat::Rgb24 => 3,
-        PixelFormat::FourBytes(_) => 4,
-    }
 }

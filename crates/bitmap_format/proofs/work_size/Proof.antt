@@ -6,7 +6,7 @@ use Prim.Native.Nat.{ℕ}
 use borrow.Author.Tests.{not-true, not-false}
 use Rattle.rle_format.specs.Sides.{AllowedSides}
 use Rattle.rle_format.proofs.Sides.{allowed-sides, checkSides-passes, checkSides-refuses}
-use Rattle.bitmap_format.specs.Pixels.{formatToForm}
+use Rattle.bitmap_format.specs.Pixels.{formatToForm, shownAlphaSize}
 use Rattle.bitmap_format.specs.Sizes.{workSize}
 use Rattle.bitmap_format.proofs.Sizes.{workSize-of, workSize-raw}
 use borrow.Author.Needs.{needs}
@@ -31,7 +31,7 @@ min-color-planes-size-requires : tie.Need-min-color-planes-size-requires
 min-color-planes-size-requires c κs = (omega (arith, within (c .before .before)), omega (arith, within (c .before .before)))
 
 shown-alpha-size-requires : tie.Need-shown-alpha-size-requires
-shown-alpha-size-requires c κs = (omega (arith, within (c .before .before .before)), omega (arith, within (c .before .before .before)))
+shown-alpha-size-requires c κs = search needs
 
 add-result : tie.Need-add-result
 add-result c = omega arith
@@ -41,7 +41,7 @@ returns-2 c =
     let k = c .before in
     let t = k .before .before in
     let a = t .before .before .before .args in
-    workSize-of (a .header) (a .width) (a .height) (k .before .has-subsampled-chroma .result) (k .before .has-subsampled-chroma .ensures) (formatToForm (a .format)) (c .shown-alpha-size .result) (k .min-color-planes-size .result) (t .if2 .taken) (c .shown-alpha-size .ensures .0) (k .min-color-planes-size .ensures .0)
+    workSize-of (a .header) (a .width) (a .height) (k .before .has-subsampled-chroma .result) (k .before .has-subsampled-chroma .ensures) (formatToForm (a .format)) (c .shown-alpha-size .result) (k .min-color-planes-size .result) (t .if2 .taken) (c .shown-alpha-size .ensures .0 ∙ checkSides-passes (λ (_ : ℕ). 0) (a .width) (a .height) (shownAlphaSize (formatToForm (a .format)) (a .header .«use_alpha») (a .width) (a .height)) (within (t .before))) (k .min-color-planes-size .ensures .0)
     ∙ sym (checkSides-passes (λ (_ : ℕ). 0) (a .width) (a .height) (workSize (formatToForm (a .format)) (a .header) (a .width) (a .height)) (within (t .before)))
 
 returns-3 : tie.Need-returns-3

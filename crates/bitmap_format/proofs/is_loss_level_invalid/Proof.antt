@@ -1,11 +1,11 @@
 -- `is_loss_level_invalid`: each return is a case of `isLossLevelInvalid`. Assumes nothing.
 use mathlib.Core.Path.{sym, ap}
 use borrow.Author.Tests.{ne-eqb}
 use Rattle.bitmap_format.specs.Picture.{isLossLevelInvalid}
 use Rattle.bitmap_format.proofs.Picture.{loss-level-upper}
 use borrow.Author.Needs.{needs}
-use Rattle.bitmap_checks.proofs.is_loss_level_invalid.Statement.{statement}
-use Rattle.bitmap_checks.proofs.is_loss_level_invalid.Tie as tie
+use Rattle.bitmap_format.proofs.is_loss_level_invalid.Statement.{statement}
+use Rattle.bitmap_format.proofs.is_loss_level_invalid.Tie as tie
 
 enum-told : tie.Need-enum-told
 enum-told c = search needs
