@@ -1,0 +1,3 @@
+mod I16
+pub mod Colour
+mod Examples

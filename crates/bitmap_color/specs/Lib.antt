@@ -1,0 +1,2 @@
+pub mod ColourOrBlack
+pub mod Examples

@@ -1,0 +1,160 @@
+-- The loop that writes the rows of an image: rows of planes passed as parts of a slice, their bounds, and the invariant.
+use Prim.Native.Nat.{ℕ, zero, suc, _+_, _*_, _<_, _≤_}
+use mathlib.Core.Bool.{Bool, true, false}
+use mathlib.Core.Path.{_≡_, refl, sym, ap, _∙_}
+use mathlib.Core.List.{List}
+use native.Mathlib.Nat.{suc-mul, mul-le-mul, mul-le-mul-right, mul-comm, zero-add}
+use native.Mathlib.Numerals.{add-one}
+use native.Mathlib.Omega.{arith}
+use lib.ListN.{length, getD}
+use lib.Seq.{getD-drop}
+use Rattle.rle_format.specs.Slice.{overwrite, writeAt}
+use Rattle.rle_format.proofs.Slice.{suffix, replaceSuffix, suffix-drop, length-replaceSuffix, suffix-overwrite}
+use Rattle.rle_format.proofs.Plane.{area-max}
+use Rattle.bitmap_format.specs.declared.ColorPlaneDefinition.{ColorPlaneDefinition}
+use Rattle.bitmap_format.specs.declared.ColorPlaneDefinition.the-variants.{Argb, AYCoCg}
+use Rattle.bitmap_format.specs.Colour.{rgb, aycocgColour}
+use Rattle.bitmap_format.specs.Planes.{PlaneAt, subsampled, chromaSide, firstPlane, secondPlane, thirdPlane, colourPlanes}
+use Rattle.bitmap_format.specs.Pixels.{PixelForm, bytesPerPixel, pixelBytes}
+use Rattle.bitmap_format.specs.Sizes.{sampleCount, sumOver, rowSize, imageSize}
+use Rattle.bitmap_format.specs.Image.{sample, chromaIndex, colourAt, concatUpTo, writeRows}
+use Rattle.bitmap_format.proofs.Sizes.{chromaSide-max, colour-sum-sides, bytesPerPixel-max}
+use Rattle.bitmap_format.proofs.PixelAt.{place-below}
+use Rattle.bitmap_rows.specs.Rows.{rowPixels}
+use Rattle.bitmap_image.specs.Rows.{rowWith}
+
+-- ---- a row of a plane, passed as the part of the slice from its first sample on
+
+suffix-at : (l : List ℕ) (from column : ℕ) → getD (suffix l from) column 0 ≡ getD l (from + column) 0
+suffix-at l from column = ap (λ (m : List ℕ). getD m column 0) (suffix-drop l from) ∙ getD-drop from l column 0
+
+suffix-sample : (planes : List ℕ) (from : ℕ) (p : PlaneAt) (row : ℕ) → from ≡ p .offset + row * p .width → (column : ℕ) → getD (suffix planes from) column 0 ≡ sample planes p row column
+unfolding sample
+suffix-sample planes from p row e column = suffix-at planes from column ∙ ap (λ (k : ℕ). getD planes (k + column) 0) e
+
+-- the rows of the planes for a row of the picture: cw and ch are the sides of a chroma plane, `chroma-row` the chroma row
+module _ (planes : List ℕ) (s : Bool) (width height row cw ch chroma-row : ℕ) (ew : cw ≡ chromaSide s width) (eh : ch ≡ chromaSide s height) (ep : chroma-row ≡ chromaIndex s row) where
+  first-is : (column : ℕ) → getD (suffix planes (row * width)) column 0 ≡ sample planes (firstPlane width height) row column
+  unfolding firstPlane
+  first-is = suffix-sample planes (row * width) (firstPlane width height) row (sym (zero-add (row * width)))
+
+  second-is : (column : ℕ) → getD (suffix planes (width * height + chroma-row * cw)) column 0 ≡ sample planes (secondPlane s width height) (chromaIndex s row) column
+  unfolding secondPlane
+  second-is = suffix-sample planes (width * height + chroma-row * cw) (secondPlane s width height) (chromaIndex s row) (λ i. width * height + ep i * ew i)
+
+  third-is : (column : ℕ) → getD (suffix planes (width * height + cw * ch + chroma-row * cw)) column 0 ≡ sample planes (thirdPlane s width height) (chromaIndex s row) column
+  unfolding thirdPlane
+  third-is = suffix-sample planes (width * height + cw * ch + chroma-row * cw) (thirdPlane s width height) (chromaIndex s row) (λ i. width * height + ew i * eh i + ep i * ew i)
+
+-- a row of pixels
+pub row-is : (form : PixelForm) (d : ColorPlaneDefinition) (flagged : Bool) (planes alpha : List ℕ) (width height row step cw ch chroma-row : ℕ) → cw ≡ chromaSide (subsampled d) width
+    → ch ≡ chromaSide (subsampled d) height → chroma-row ≡ chromaIndex (subsampled d) row
+    → rowPixels form d flagged (suffix planes (row * width)) (suffix planes (width * height + chroma-row * cw)) (suffix planes (width * height + cw * ch + chroma-row * cw)) (suffix alpha (row * step)) width
+    ≡ rowWith form d flagged width height planes alpha step row
+unfolding colourAt chromaIndex
+row-is form Argb flagged planes alpha width height row step cw ch chroma-row ew eh ep =
+    λ i. concatUpTo width
+    (λ (column : ℕ).
+    pixelBytes form
+    (rgb (first-is planes false width height row cw ch chroma-row ew eh ep column i) (second-is planes false width height row cw ch chroma-row ew eh ep column i)
+    (third-is planes false width height row cw ch chroma-row ew eh ep column i)) (suffix-at alpha (row * step) column i))
+row-is form (AYCoCg level s) flagged planes alpha width height row step cw ch chroma-row ew eh ep =
+    λ i. concatUpTo width
+    (λ (column : ℕ).
+    pixelBytes form
+    (aycocgColour flagged level (first-is planes s width height row cw ch chroma-row ew eh ep column i)
+    (second-is planes s width height row cw ch chroma-row ew eh ep (chromaIndex s column) i)
+    (third-is planes s width height row cw ch chroma-row ew eh ep (chromaIndex s column) i)) (suffix-at alpha (row * step) column i))
+
+-- ---- the room of a row
+
+pub row-within : (row width height : ℕ) → row < height → row * width + width ≤ width * height
+row-within row width height h =
+    let m : suc row * width ≤ height * width = mul-le-mul-right width (omega arith) in
+    omega (arith, suc-mul row width, mul-comm height width)
+
+-- the sizes of the planes: cw and ch are the sides of a chroma plane, len the length of the planes
+pub record Areas (width height cw ch len : ℕ) : Type 0 where
+  pub full-most : width * height ≤ 67108864
+  pub chroma-most : cw * ch ≤ 67108864
+  pub all : width * height + 2 * (cw * ch) ≤ len
+
+-- and of a row, whose chroma row is `chroma-row`
+pub record Rooms (width height row cw ch chroma-row len : ℕ) : Type 0 where
+  pub luma : row * width + width ≤ width * height
+  pub chroma : chroma-row * cw + cw ≤ cw * ch
+  pub full-most : width * height ≤ 67108864
+  pub chroma-most : cw * ch ≤ 67108864
+  pub all : width * height + 2 * (cw * ch) ≤ len
+
+module _ (s : Bool) (width height cw ch len : ℕ) (lw : width ≤ 8192) (lh : height ≤ 8192) (ew : cw ≡ chromaSide s width) (eh : ch ≡ chromaSide s height)
+    (l : sumOver sampleCount (colourPlanes s width height) ≤ len) where
+  pub areas : Areas width height cw ch len
+  areas = record {
+    full-most = area-max width height lw lh;
+    chroma-most = area-max cw ch (omega (arith, chromaSide-max s width)) (omega (arith, chromaSide-max s height));
+    all = rw (ew, eh) (rw (colour-sum-sides false s width height) at l);
+  }
+
+  pub rooms : (row chroma-row : ℕ) → row < height → chroma-row ≡ chromaIndex s row → Rooms width height row cw ch chroma-row len
+  rooms row chroma-row lr ep =
+      let below : chroma-row < ch = rw (ep, eh) (place-below s row height lr) in
+      record {
+        luma = row-within row width height lr;
+        chroma = row-within chroma-row cw ch below;
+        full-most = areas .full-most;
+        chroma-most = areas .chroma-most;
+        all = areas .all;
+      }
+
+-- the room of a part, which begins at a small number
+pub record PartRoom (from need len : ℕ) : Type 0 where
+  pub fits : from + need ≤ len
+  pub small : from ≤ 536870912
+
+-- a row of the image: `size` is its number of bytes
+pub image-room : (form : PixelForm) (row width height len size : ℕ) → row < height → width ≤ 8192 → height ≤ 8192 → size ≡ bytesPerPixel form * width → imageSize form width height ≤ len
+    → PartRoom (row * size) size len
+unfolding imageSize
+image-room form row width height len size lr lw lh es l =
+    let within : row * size + size ≤ size * height = row-within row size height lr in
+    let all : size * height ≡ bytesPerPixel form * width * height = ap (λ (k : ℕ). k * height) es in
+    let bytes : bytesPerPixel form * width ≤ 4 * 8192 = mul-le-mul (bytesPerPixel-max form) lw in
+    let most : bytesPerPixel form * width * height ≤ 4 * 8192 * 8192 = mul-le-mul bytes lh in
+    record { fits = omega arith; small = omega arith }
+
+-- a row of alpha
+pub alpha-room : (row step need height len : ℕ) → row < height → height ≤ 8192 → step ≤ 8192 → row * step + need ≤ len → PartRoom (row * step) need len
+alpha-room row step need height len lr lh ls l =
+    let low : row ≤ 8192 = omega arith in
+    let most : row * step ≤ 8192 * 8192 = mul-le-mul low ls in
+    record { fits = l; small = omega arith }
+
+-- ---- the rows of an image: d₀ is the image before, d the slice now; f gives a row, `size` is the size of one
+
+pub record ImageInvariant (d₀ d : List ℕ) (row size : ℕ) (f : ℕ → List ℕ) : Type 0 where
+  pub len : length d ≡ length d₀
+  pub image : d ≡ writeRows size f row d₀
+
+pub image-start : (d : List ℕ) (size : ℕ) (f : ℕ → List ℕ) → ImageInvariant d d 0 size f
+unfolding writeRows
+image-start d size f = record { len = refl; image = refl }
+
+-- one more row, written to a part of the image
+pub image-step : (d₀ d ys vs : List ℕ) (row size : ℕ) (f : ℕ → List ℕ) → ImageInvariant d₀ d row size f → ys ≡ overwrite (suffix d (row * size)) vs → vs ≡ f row
+    → length ys ≡ length (suffix d (row * size)) → ImageInvariant d₀ (replaceSuffix d (row * size) ys) (row + 1) size f
+unfolding writeRows
+image-step d₀ d ys vs row size f h e ev same = record {
+  len = length-replaceSuffix d ys (row * size) same ∙ h .len;
+  image = suffix-overwrite d ys vs (row * size) e
+      ∙ (λ i. writeAt (h .image i) (row * size) (ev i))
+      ∙ ap (λ (k : ℕ). writeRows size f k d₀) (sym (add-one row));
+}
+
+pub image-end : (d₀ d : List ℕ) (row size height : ℕ) (f : ℕ → List ℕ) → ImageInvariant d₀ d row size f → row ≡ height → d ≡ writeRows size f height d₀
+image-end d₀ d row size height f h e = h .image ∙ ap (λ (k : ℕ). writeRows size f k d₀) e
+
+-- the size of a row as the code computes it
+pub row-size-is : (form : PixelForm) (width size : ℕ) → size ≡ bytesPerPixel form * width → size ≡ rowSize form width
+unfolding rowSize
+row-size-is form width size e = e

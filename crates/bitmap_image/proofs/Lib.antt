@@ -1,0 +1,5 @@
+pub mod ImageLoop
+pub mod AlphaRows
+pub mod Row
+pub mod PlanesFit
+pub mod Examples

@@ -1,0 +1,217 @@
+// The image of a picture, from its planes (FORMAT 6): pixels of three or of four bytes.
+mod rows;
+
+ghost use mathlib.Core.Path.{_≡_};
+ghost use mathlib.Core.Bool.{false};
+ghost use Prim.Native.Nat.{_≤_};
+ghost use lib.ListN.{length};
+ghost use Rattle.bitmap_format.specs.Planes.{subsampled, colourPlanes};
+ghost use Rattle.bitmap_format.specs.Pixels.{formatToForm};
+ghost use Rattle.bitmap_format.specs.Sizes.{sampleCount, sumOver, rowSize, imageSize};
+ghost use Rattle.bitmap_format.specs.Image.{writeRows};
+ghost use Rattle.bitmap_format.specs.Picture.{isLossLevelInvalid};
+ghost use Rattle.bitmap_image.specs.Rows.{AlphaRowsFit, isDoubled, rowWith};
+ghost use Rattle.bitmap_image.specs.WritePlanes.{planesFit, writePlanes};
+use bitmap_format::BitmapStreamHeader;
+use bitmap_format::ColorPlaneDefinition;
+use bitmap_format::color_planes_size;
+use bitmap_format::has_subsampled_chroma;
+use bitmap_format::image_size;
+use bitmap_format::is_loss_level_invalid;
+use bitmap_format::shown_alpha_size;
+use pixel_format::PixelFormat;
+use rle_format::MAX_SIDE;
+use rows::write_rows;
+
+// Pictures up to this width have short arrays. To fill long ones takes about as long as to write a picture of 20 × 20 pixels.
+const NARROW_WIDTH: usize = 256;
+
+// Whether each chroma sample of a row is first written twice, to an array: that of a subsampled picture, for four-byte pixels.
+fn is_doubled(format: PixelFormat, definition: ColorPlaneDefinition) -> bool
+    ensures { λ r. ⌜ r ≡ isDoubled (formatToForm format) definition ⌝ }
+{
+    let PixelFormat::FourBytes(_) = format else {
+        return false;
+    };
+    has_subsampled_chroma(definition)
+}
+
+// Writes the image of a picture whose rows of alpha are `step` apart, with arrays for two chroma rows if these are needed.
+fn write_with_alpha(
+    format: PixelFormat,
+    definition: ColorPlaneDefinition,
+    flagged: bool,
+    planes: &[u8],
+    alpha: &[u8],
+    step: usize,
+    image: &mut [u8],
+    width: usize,
+    height: usize,
+)
+    requires { ⌜ (isLossLevelInvalid definition ≡ false) × (width ≤ 8192) × (height ≤ 8192) × (sumOver sampleCount (colourPlanes (subsampled definition) width height) ≤ length (now planes)) × (step ≤ 8192) × AlphaRowsFit (formatToForm format) width height step (length (now alpha)) × (imageSize (formatToForm format) width height ≤ length (now image)) ⌝ }
+    ensures { λ _. ⌜ now (image .exit) ≡ writeRows (rowSize (formatToForm format) width) (rowWith (formatToForm format) definition flagged width height (now (planes .entry)) (now (alpha .entry)) step) height (now (image .entry)) ⌝ }
+{
+    if !is_doubled(format, definition) {
+        let mut co = [0u8; 1];
+        let mut cg = [0u8; 1];
+        write_rows(
+            format,
+            definition,
+            flagged,
+            planes,
+            alpha,
+            step,
+            image,
+            width,
+            height,
+            &mut co[0..],
+            &mut cg[0..],
+        );
+        return;
+    }
+    if width <= NARROW_WIDTH {
+        let mut co = [0u8; NARROW_WIDTH];
+        let mut cg = [0u8; NARROW_WIDTH];
+        write_rows(
+            format,
+            definition,
+            flagged,
+            planes,
+            alpha,
+            step,
+            image,
+            width,
+            height,
+            &mut co[0..],
+            &mut cg[0..],
+        );
+        return;
+    }
+    let mut co = [0u8; MAX_SIDE];
+    let mut cg = [0u8; MAX_SIDE];
+    write_rows(
+        format,
+        definition,
+        flagged,
+        planes,
+        alpha,
+        step,
+        image,
+        width,
+        height,
+        &mut co[0..],
+        &mut cg[0..],
+    );
+}
+
+// Whether the picture can be written: planes and image, of these lengths, have their minimum sizes, and the loss level is valid.
+fn has_planes(
+    format: PixelFormat,
+    header: BitmapStreamHeader,
+    planes: usize,
+    alpha: usize,
+    image: usize,
+    width: usize,
+    height: usize,
+) -> bool
+    ensures { λ r. ⌜ r ≡ planesFit (formatToForm format) header width height planes alpha image ⌝ }
+{
+    let size = image_size(format, width, height);
+    if size == 0 {
+        return false;
+    }
+    if image < size {
+        return false;
+    }
+    if planes < color_planes_size(header, width, height) {
+        return false;
+    }
+    if alpha < shown_alpha_size(format, header.use_alpha, width, height) {
+        return false;
+    }
+    let definition = header.color_plane_definition;
+    !is_loss_level_invalid(definition)
+}
+
+// Writes the image of a picture. `planes` begins with its three colour planes, `alpha` with its alpha plane, if four-byte pixels show one. If the
+// picture cannot be written, the image is unchanged. Without an alpha plane all rows have the same row of alpha, which is 255.
+pub fn write_planes(
+    format: PixelFormat,
+    header: BitmapStreamHeader,
+    planes: &[u8],
+    alpha: &[u8],
+    image: &mut [u8],
+    width: usize,
+    height: usize,
+)
+    ensures { λ _. ⌜ now (image .exit) ≡ writePlanes (formatToForm format) header width height (now (planes .entry)) (now (alpha .entry)) (now (image .entry)) ⌝ }
+{
+    if !has_planes(
+        format,
+        header,
+        planes.len(),
+        alpha.len(),
+        image.len(),
+        width,
+        height,
+    ) {
+        return;
+    }
+    let definition = header.color_plane_definition;
+    let flagged = header.use_alpha;
+    let PixelFormat::FourBytes(_) = format else {
+        write_with_alpha(
+            format,
+            definition,
+            flagged,
+            planes,
+            alpha,
+            0,
+            image,
+            width,
+            height,
+        );
+        return;
+    };
+    if flagged {
+        write_with_alpha(
+            format,
+            definition,
+            flagged,
+            planes,
+            alpha,
+            width,
+            image,
+            width,
+            height,
+        );
+        return;
+    }
+    if width <= NARROW_WIDTH {
+        let opaque = [255u8; NARROW_WIDTH];
+        write_with_alpha(
+            format,
+            definition,
+            flagged,
+            planes,
+            &opaque[0..],
+            0,
+            image,
+            width,
+            height,
+        );
+        return;
+    }
+    let opaque = [255u8; MAX_SIDE];
+    write_with_alpha(
+        format,
+        definition,
+        flagged,
+        planes,
+        &opaque[0..],
+        0,
+        image,
+        width,
+        height,
+    );
+}

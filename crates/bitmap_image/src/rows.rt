@@ -1,0 +1,123 @@
+// The rows of an image, from the rows of the planes.
+ghost use mathlib.Core.Path.{_≡_};
+ghost use mathlib.Core.Bool.{false};
+ghost use Prim.Native.Nat.{_*_, _≤_};
+ghost use lib.ListN.{length};
+ghost use Rattle.rle_format.specs.Slice.{overwrite};
+ghost use Rattle.bitmap_format.specs.Planes.{subsampled, chromaSide, colourPlanes};
+ghost use Rattle.bitmap_format.specs.Pixels.{formatToForm, bytesPerPixel};
+ghost use Rattle.bitmap_format.specs.Sizes.{sampleCount, sumOver, rowSize, imageSize};
+ghost use Rattle.bitmap_format.specs.Image.{chromaIndex, writeRows};
+ghost use Rattle.bitmap_format.specs.Picture.{isLossLevelInvalid};
+ghost use Rattle.bitmap_rows.specs.Rows.{shownAlpha, rowPixels};
+ghost use Rattle.bitmap_image.specs.Rows.{AlphaRowsFit, arrayWidth, rowWith};
+use bitmap_format::ColorPlaneDefinition;
+use bitmap_format::bytes_per_pixel;
+use bitmap_format::chroma_side;
+use bitmap_format::has_subsampled_chroma;
+use bitmap_rows::double_samples;
+use bitmap_rows::write_pixel_row;
+use bitmap_rows::write_rgb24_row;
+use pixel_format::PixelFormat;
+
+// Writes a row of the image. The two arrays are for the chroma samples of a subsampled row, one for each column.
+fn write_row(
+    format: PixelFormat,
+    definition: ColorPlaneDefinition,
+    flagged: bool,
+    first: &[u8],
+    second: &[u8],
+    third: &[u8],
+    alpha: &[u8],
+    dst: &mut [u8],
+    width: usize,
+    co: &mut [u8],
+    cg: &mut [u8],
+)
+    requires { ⌜ (isLossLevelInvalid definition ≡ false) × (width ≤ length (now first)) × (chromaSide (subsampled definition) width ≤ length (now second)) × (chromaSide (subsampled definition) width ≤ length (now third)) × (shownAlpha (formatToForm format) width ≤ length (now alpha)) × (bytesPerPixel (formatToForm format) * width ≤ length (now dst)) × (arrayWidth (formatToForm format) definition width ≤ length (now co)) × (arrayWidth (formatToForm format) definition width ≤ length (now cg)) ⌝ }
+    ensures { λ _. ⌜ now (dst .exit) ≡ overwrite (now (dst .entry)) (rowPixels (formatToForm format) definition flagged (now (first .entry)) (now (second .entry)) (now (third .entry)) (now (alpha .entry)) width) ⌝ }
+{
+    let PixelFormat::FourBytes(layout) = format else {
+        write_rgb24_row(definition, flagged, first, second, third, dst, width);
+        return;
+    };
+    if has_subsampled_chroma(definition) {
+        double_samples(second, co, width);
+        double_samples(third, cg, width);
+        write_pixel_row(
+            layout,
+            definition,
+            flagged,
+            first,
+            &co[0..],
+            &cg[0..],
+            alpha,
+            dst,
+            width,
+        );
+        return;
+    }
+    write_pixel_row(
+        layout,
+        definition,
+        flagged,
+        first,
+        second,
+        third,
+        alpha,
+        dst,
+        width,
+    );
+}
+
+// The chroma row of a row of the picture (FORMAT 6.3).
+fn chroma_index(subsampling: bool, row: usize) -> usize
+    ensures { λ r. ⌜ r ≡ chromaIndex subsampling row ⌝ }
+{
+    if subsampling {
+        return row / 2;
+    }
+    row
+}
+
+// Writes the rows of the image. Rows of alpha are `step` apart: with a step of 0 all rows have the same.
+pub(crate) fn write_rows(
+    format: PixelFormat,
+    definition: ColorPlaneDefinition,
+    flagged: bool,
+    planes: &[u8],
+    alpha: &[u8],
+    step: usize,
+    image: &mut [u8],
+    width: usize,
+    height: usize,
+    co: &mut [u8],
+    cg: &mut [u8],
+)
+    requires { ⌜ (isLossLevelInvalid definition ≡ false) × (width ≤ 8192) × (height ≤ 8192) × (sumOver sampleCount (colourPlanes (subsampled definition) width height) ≤ length (now planes)) × (step ≤ 8192) × AlphaRowsFit (formatToForm format) width height step (length (now alpha)) × (imageSize (formatToForm format) width height ≤ length (now image)) × (arrayWidth (formatToForm format) definition width ≤ length (now co)) × (arrayWidth (formatToForm format) definition width ≤ length (now cg)) ⌝ }
+    ensures { λ _. ⌜ now (image .exit) ≡ writeRows (rowSize (formatToForm format) width) (rowWith (formatToForm format) definition flagged width height (now (planes .entry)) (now (alpha .entry)) step) height (now (image .entry)) ⌝ }
+{
+    let subsampling = has_subsampled_chroma(definition);
+    let second = width * height;
+    let chroma_width = chroma_side(subsampling, width);
+    let third = second + chroma_width * chroma_side(subsampling, height);
+    let size = bytes_per_pixel(format) * width;
+    let mut row = 0;
+    while row < height {
+        let chroma = chroma_index(subsampling, row) * chroma_width;
+        write_row(
+            format,
+            definition,
+            flagged,
+            &planes[row * width..],
+            &planes[second + chroma..],
+            &planes[third + chroma..],
+            &alpha[row * step..],
+            &mut image[row * size..],
+            width,
+            co,
+            cg,
+        );
+        row = row + 1;
+    }
+}
