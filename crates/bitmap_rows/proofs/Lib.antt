@@ -1,3 +1,4 @@
 pub mod Rows
 mod PixelLoop
 mod Inner
+mod Examples

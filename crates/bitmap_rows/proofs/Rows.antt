@@ -79,15 +79,15 @@ pub full-samples-tested : (d : ColorPlaneDefinition) (width : ℕ) (first second
     → samplesFit width (chromaSide (subsampled (fullChroma d)) width) first second third ≡ t
 full-samples-tested d width first second third r t er et = ap (λ (k : ℕ). samplesFit width k first second third) (fullChroma-side d width) ∙ sym er ∙ et
 
-module _ (form : PixelForm) (d : ColorPlaneDefinition) (flagged : Bool) (first second third alpha : List ℕ) (width : ℕ) (dst : List ℕ) where
-  -- the pixels of a row by their number
-  pub length-rowPixels : length (rowPixels form d flagged first second third alpha width) ≡ width * bytesPerPixel form
-  length-rowPixels = length-concatUpTo width (bytesPerPixel form) (pixelAt form d flagged first second third alpha) (λ k. sized form k)
-    where
-      sized : (form : PixelForm) (k : ℕ) → length (pixelAt form d flagged first second third alpha k) ≡ bytesPerPixel form
-      sized threeBytes k = refl
-      sized (fourBytes p) k = refl
+pub length-rowPixels : (form : PixelForm) (d : ColorPlaneDefinition) (flagged : Bool) (first second third alpha : List ℕ) (width : ℕ)
+    → length (rowPixels form d flagged first second third alpha width) ≡ width * bytesPerPixel form
+length-rowPixels form d flagged first second third alpha width = length-concatUpTo width (bytesPerPixel form) (pixelAt form d flagged first second third alpha) (λ k. sized form k)
+  where
+    sized : (form : PixelForm) (k : ℕ) → length (pixelAt form d flagged first second third alpha k) ≡ bytesPerPixel form
+    sized threeBytes k = refl
+    sized (fourBytes p) k = refl
 
+module _ (form : PixelForm) (d : ColorPlaneDefinition) (flagged : Bool) (first second third alpha : List ℕ) (width : ℕ) (dst : List ℕ) where
   pub row-no-room : length dst < bytesPerPixel form * width → dst ≡ writeRow form d flagged first second third alpha width dst
   unfolding rowFits writeRow
   row-no-room h = simp (lt-leb (bytesPerPixel form * width) (length dst) h, and-false)
@@ -127,6 +127,19 @@ module _ (form : PixelForm) (d : ColorPlaneDefinition) (flagged : Bool) (first s
     pub row-written : writeRow form d flagged first second third alpha width dst ≡ overwrite dst (rowPixels form d flagged first second third alpha width)
     unfolding writeRow
     row-written = rw row-fits refl
+
+-- the same for chroma rows that have a sample for each column
+pub fullChroma-level : (d : ColorPlaneDefinition) → isLossLevelInvalid (fullChroma d) ≡ isLossLevelInvalid d
+unfolding isLossLevelInvalid
+fullChroma-level Argb = refl
+fullChroma-level (AYCoCg level s) = refl
+
+pub full-row-written : (form : PixelForm) (d : ColorPlaneDefinition) (flagged : Bool) (first second third alpha : List ℕ) (width : ℕ) (dst : List ℕ) → isLossLevelInvalid d ≡ false
+    → width ≤ length first → width ≤ length second → width ≤ length third → shownAlpha form width ≤ length alpha → bytesPerPixel form * width ≤ length dst
+    → writeRow form (fullChroma d) flagged first second third alpha width dst ≡ overwrite dst (rowPixels form (fullChroma d) flagged first second third alpha width)
+full-row-written form d flagged first second third alpha width dst valid h₁ h₂ h₃ shown room =
+    let side = fullChroma-side d width in
+    row-written form (fullChroma d) flagged first second third alpha width dst (fullChroma-level d ∙ valid) h₁ (rw side h₂) (rw side h₃) shown room
 
 -- ---- doubled samples
 

@@ -56,8 +56,9 @@ fn write_quad(dst: &mut [u8], at: usize, pixel: Quad)
     dst[at + 3] = pixel.fourth;
 }
 
-// Writes a row of an AYCoCg picture. The loop looks at two flags that it does not change, and at nothing else: from that the compiler makes
-// vectorised loops without a test. The level is tested here too, so that `aycocg_color` has no test left in the loop.
+// Writes a row of an AYCoCg picture, or nothing if the loss level is not one of 1 to 7. With that test before the loop the compiler removes those
+// of `aycocg_color` from it. The loop then looks at two flags that it does not change, and at nothing else: with a third test in it the compiler
+// no longer vectorises it.
 fn write_aycocg_pixels(
     leading: bool,
     params: AYCoCgParams,
@@ -166,20 +167,12 @@ pub(crate) fn write_pixels(
             use_chroma_subsampling: _,
         } => {
             let params = AYCoCgParams {
-                color_loss_level: color_loss_level,
+                color_loss_level,
                 chroma_subsampling: false,
                 alpha: color_flag(layout, flagged),
             };
-            write_aycocg_pixels(
-                alpha_first(layout),
-                params,
-                first,
-                second,
-                third,
-                alpha,
-                dst,
-                width,
-            )
+            let leading = alpha_first(layout);
+            write_aycocg_pixels(leading, params, first, second, third, alpha, dst, width)
         }
     }
 }

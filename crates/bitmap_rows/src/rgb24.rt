@@ -43,8 +43,8 @@ fn write_argb_row(red: &[u8], green: &[u8], blue: &[u8], dst: &mut [u8], width: 
     }
 }
 
-// Writes a row of an AYCoCg picture in which each pixel has its own chroma samples. The level is tested here too, so that `aycocg_color` has no
-// test left in the loop.
+// Writes a row of an AYCoCg picture in which each pixel has its own chroma samples, or nothing if the loss level is not one of 1 to 7. With that
+// test before the loop the compiler removes those of `aycocg_color` from it.
 fn write_full_row(
     params: AYCoCgParams,
     y: &[u8],
@@ -71,7 +71,7 @@ fn write_full_row(
 }
 
 // Writes `pairs` pairs of pixels; the two of a pair share their chroma samples. Both colours are computed before the first is written, so that the
-// compiler reads the samples once. The level is tested for the same reason as in `write_full_row`.
+// compiler reads the samples once. The loss level is tested as in `write_full_row`.
 fn write_pairs(params: AYCoCgParams, y: &[u8], co: &[u8], cg: &[u8], dst: &mut [u8], pairs: usize)
     requires { ⌜ (2 * pairs ≤ length (now y)) × (pairs ≤ length (now co)) × (pairs ≤ length (now cg)) × (6 * pairs ≤ length (now dst)) ⌝ }
     ensures { λ _. ⌜ now (dst .exit) ≡ writeFittingRow threeBytes (aycocg (params .«color_loss_level») true) (params .alpha) (now (y .entry)) (now (co .entry)) (now (cg .entry)) [] (2 * pairs) (now (dst .entry)) ⌝ }
@@ -94,7 +94,8 @@ fn write_pairs(params: AYCoCgParams, y: &[u8], co: &[u8], cg: &[u8], dst: &mut [
     }
 }
 
-// Writes a row of a subsampled picture. If the width is odd, the last pixel is written by itself.
+// Writes a row of a subsampled picture, or nothing if the loss level is not one of 1 to 7. If the width is odd, the last pixel is written by
+// itself.
 fn write_subsampled_row(
     params: AYCoCgParams,
     y: &[u8],
@@ -159,7 +160,7 @@ pub(crate) fn write_rgb24_pixels(
             use_chroma_subsampling,
         } => {
             let params = AYCoCgParams {
-                color_loss_level: color_loss_level,
+                color_loss_level,
                 chroma_subsampling: use_chroma_subsampling,
                 alpha: flagged,
             };
