@@ -1,5 +1,5 @@
 -- The outcomes of a picture.
-use Prim.Native.Nat.{ℕ, _+_, _*_, _≤_}
+use Prim.Native.Nat.{ℕ, _+_, _-_, _*_, _≤_}
 use mathlib.Core.Bool.{Bool, true, false}
 use mathlib.Core.Path.{_≡_, refl, sym, ap, _∙_}
 use mathlib.Core.List.{List}
@@ -12,7 +12,7 @@ use Rattle.rle_format.specs.declared.Unpacked.the-variants.{Read, Refused}
 use Rattle.rle_format.specs.Choice.{choose}
 use Rattle.rle_format.specs.Answer.{Answer, counted, number, toAnswer}
 use Rattle.rle_format.specs.Sides.{checkSides, AllowedSides}
-use Rattle.rle_format.proofs.Sides.{checkSides-passes}
+use Rattle.rle_format.proofs.Sides.{allowed-sides, checkSides-passes}
 use Rattle.rle_format.proofs.Slice.{suffix, suffix-drop}
 use Rattle.pixel_format.specs.declared.PixelFormat.{PixelFormat}
 use Rattle.pixel_format.specs.declared.PixelFormat.the-variants.{Rgb24, FourBytes}
@@ -24,8 +24,10 @@ use Rattle.bitmap_format.specs.Planes.{alphaPlanesAt, alphaPlanes, planesWithAl
 use Rattle.bitmap_format.specs.Pixels.{PixelForm, threeBytes, fourBytes, formatToForm, shownAlphaSize}
 use Rattle.bitmap_format.specs.Sizes.{sampleCount, sumOver, minBodySize, colourPlanesSize, alphaOffset, workSize, rowSize, imageSize}
 use Rattle.bitmap_format.specs.Image.{imageRow, writeRows}
+use Rattle.bitmap_format.specs.Checks.{firstRefusal}
 use Rattle.bitmap_format.specs.UnpackPlanes.{unpackPlanes}
-use Rattle.bitmap_format.specs.Picture.{PictureOutcome, refusedPicture, isLossLevelInvalid, writeImage, unpackRaw, imageFromWork, unpackRle, decodedToAnswer}
+use Rattle.bitmap_format.specs.Picture.{PictureOutcome, refusedPicture, isLossLevelInvalid, pictureChecks, checkPicture, writeImage, unpackRaw, imageFromWork, unpackRle, decodedToAnswer}
+use Rattle.bitmap_format.proofs.Checks.{sides-passed}
 use Rattle.bitmap_format.proofs.Picture.{rle-work-enough, raw-body-enough}
 use Rattle.bitmap_planes.proofs.PlaneSequence.{PlanesRead}
 use Rattle.bitmap_image.specs.WritePlanes.{writePlanes}
@@ -40,6 +42,12 @@ result-cong p q work image d e l = rw e l
 
 length-suffix : (l : List ℕ) (from : ℕ) → length (suffix l from) ≡ length l - from
 length-suffix l from = ap length (suffix-drop l from) ∙ length-drop from l
+
+-- the sides of a picture that passed all checks
+pub checked-sides : (form : PixelForm) (header : BitmapStreamHeader) (w h body work image n : ℕ) → checkPicture form header w h body work image ≡ counted n → AllowedSides w h
+unfolding checkPicture
+checked-sides form header w h body work image n e =
+    allowed-sides w h (sides-passed w h n (firstRefusal (pictureChecks form header w h body work image) (counted (imageSize form w h))) e .0)
 
 -- ---- alpha_offset
 

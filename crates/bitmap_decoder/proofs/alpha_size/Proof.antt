@@ -8,7 +8,7 @@ use Rattle.bitmap_decoder.proofs.alpha_size.Tie as tie
 mul-result : tie.Need-mul-result
 mul-result c =
     let s = (c .before) in
-    omega (arith, area-max (s .args .width) (s .args .height) (s .pre .0) (s .pre .1))
+    omega (arith, area-max (s .args .width) (s .args .height) (s .pre .wide) (s .pre .high))
 
 returns : tie.Need-returns
 returns c = alpha-flagged _ _ _ (c .if1 .taken)
