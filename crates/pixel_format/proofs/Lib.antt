@@ -1,3 +1,4 @@
 mod Examples
+pub mod Layouts
 mod Samples
 mod PixelWords

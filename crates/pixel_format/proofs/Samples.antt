@@ -11,8 +11,10 @@ use Rattle.rle_format.proofs.Cases.{le-or-gt}
 use Rattle.rle_format.proofs.Slice.{overwrite-nil}
 use Rattle.pixel_format.specs.declared.Channel.{Channel}
 use Rattle.pixel_format.specs.declared.Layout.{Layout}
-use Rattle.pixel_format.specs.declared.Layout.the-variants.{Planar, BgrA}
-use Rattle.pixel_format.specs.Channel.{ChannelOffsets, bgrA, offsetOf, strided, channel, samplesOf}
+use Rattle.pixel_format.specs.declared.Layout.the-variants.{Planar, Pixels}
+use Rattle.pixel_format.specs.declared.PixelLayout.{PixelLayout}
+use Rattle.pixel_format.specs.Channel.{ChannelOffsets, channelOffsets, offsetOf, strided, channel, samplesOf}
+use Rattle.pixel_format.proofs.Layouts.{layouts-rearrange}
 
 pub length-strided : (stride offset n : ℕ) (d : List ℕ) → length (strided stride offset n d) ≡ n
 unfolding strided
@@ -66,14 +68,15 @@ module _ (l : Layout) (c : Channel) (s : List ℕ) where
   pub samplesOf-planar : l ≡ Planar → s ≡ samplesOf l c s
   samplesOf-planar e = ap (λ (k : Layout). samplesOf k c s) (sym e)
 
-  pub samplesOf-bgra : l ≡ BgrA → channel bgrA c s ≡ samplesOf l c s
-  samplesOf-bgra e = ap (λ (k : Layout). samplesOf k c s) (sym e)
+  pub samplesOf-pixels : (p : PixelLayout) → l ≡ Pixels p → channel (channelOffsets p) c s ≡ samplesOf l c s
+  samplesOf-pixels p e = ap (λ (k : Layout). samplesOf k c s) (sym e)
 
   pub planar-count : l ≡ Planar → length s ≡ length (samplesOf l c s)
   planar-count e = ap length (samplesOf-planar e)
 
-  pub bgra-count : l ≡ BgrA → length s / 4 ≡ length (samplesOf l c s)
-  bgra-count e = sym (length-channel bgrA c s) ∙ ap length (samplesOf-bgra e)
+  pub pixels-count : (p : PixelLayout) → l ≡ Pixels p → length s / 4 ≡ length (samplesOf l c s)
+  pixels-count p e =
+      ap (λ (k : ℕ). length s / k) (sym (layouts-rearrange p .four-bytes)) ∙ sym (length-channel (channelOffsets p) c s) ∙ ap length (samplesOf-pixels p e)
 
   -- what was copied of them is what was asked for
   module _ (d now : List ℕ) (from n : ℕ) (all : n ≡ min (length (samplesOf l c s) - from) (length d)) where
@@ -83,11 +86,12 @@ module _ (l : Layout) (c : Channel) (s : List ℕ) where
         let part : from + n - from ≡ n = omega arith in
         is ∙ (λ i. overwrite d (take (part i) (drop from (samplesOf-planar e i)))) ∙ ap (overwrite d) (read-limited (samplesOf l c s) from n (length d) all)
 
-    pub bgra-read : (offset : ℕ) → offset ≡ offsetOf bgrA c → l ≡ BgrA → now ≡ overwrite d (take n (drop from (strided 4 offset (length s / 4) s)))
+    pub pixels-read : (p : PixelLayout) (offset : ℕ) → offset ≡ offsetOf (channelOffsets p) c → l ≡ Pixels p → now ≡ overwrite d (take n (drop from (strided 4 offset (length s / 4) s)))
         → now ≡ overwrite d (take (length d) (drop from (samplesOf l c s)))
     unfolding channel
-    bgra-read offset at e is =
+    pixels-read p offset at e is =
+        let four : 4 ≡ channelOffsets p .stride = sym (layouts-rearrange p .four-bytes) in
         is
-        ∙ ap (λ (p : ℕ). overwrite d (take n (drop from (strided 4 p (length s / 4) s)))) at
-        ∙ ap (λ (t : List ℕ). overwrite d (take n (drop from t))) (samplesOf-bgra e)
+        ∙ (λ i. overwrite d (take n (drop from (strided (four i) (at i) (length s / four i) s))))
+        ∙ ap (λ (t : List ℕ). overwrite d (take n (drop from t))) (samplesOf-pixels p e)
         ∙ ap (overwrite d) (read-limited (samplesOf l c s) from n (length d) all)

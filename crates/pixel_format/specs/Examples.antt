@@ -5,7 +5,8 @@ use mathlib.Core.List.{List, [], _∷_}
 use Rattle.pixel_format.specs.declared.Channel.{Channel}
 use Rattle.pixel_format.specs.declared.Channel.the-variants.{R, G, B, A}
 use Rattle.pixel_format.specs.declared.Layout.{Layout}
-use Rattle.pixel_format.specs.declared.Layout.the-variants.{Planar, BgrA}
+use Rattle.pixel_format.specs.declared.Layout.the-variants.{Planar, Pixels}
+use Rattle.pixel_format.specs.declared.PixelLayout.the-variants.{BgrA, RgbA, ARgb, ABgr}
 use Rattle.pixel_format.specs.Channel.{samplesOf}
 
 -- a slice with its layout, and the samples of a channel in it
@@ -26,16 +27,28 @@ computed e = samplesOf (e .layout) (e .channel) (e .slice)
 abbrev pub expected : Example → List ℕ
 expected e = e .samples
 
--- three pixels of B, G, R, A, and three bytes of a fourth
+-- three pixels, and three bytes of a fourth
 abbrev pub pixels : List ℕ
 pixels = 1 ∷ 2 ∷ 3 ∷ 4 ∷ 5 ∷ 6 ∷ 7 ∷ 8 ∷ 9 ∷ 10 ∷ 11 ∷ 12 ∷ 13 ∷ 14 ∷ 15 ∷ []
 
--- each channel of the pixels; then the same bytes as one channel
+-- each channel in each layout; then the same bytes as one channel
 abbrev pub examples : List Example
 examples =
-    example BgrA B pixels (1 ∷ 5 ∷ 9 ∷ [])
-    ∷ example BgrA G pixels (2 ∷ 6 ∷ 10 ∷ [])
-    ∷ example BgrA R pixels (3 ∷ 7 ∷ 11 ∷ [])
-    ∷ example BgrA A pixels (4 ∷ 8 ∷ 12 ∷ [])
+    example (Pixels BgrA) B pixels (1 ∷ 5 ∷ 9 ∷ [])
+    ∷ example (Pixels BgrA) G pixels (2 ∷ 6 ∷ 10 ∷ [])
+    ∷ example (Pixels BgrA) R pixels (3 ∷ 7 ∷ 11 ∷ [])
+    ∷ example (Pixels BgrA) A pixels (4 ∷ 8 ∷ 12 ∷ [])
+    ∷ example (Pixels RgbA) R pixels (1 ∷ 5 ∷ 9 ∷ [])
+    ∷ example (Pixels RgbA) G pixels (2 ∷ 6 ∷ 10 ∷ [])
+    ∷ example (Pixels RgbA) B pixels (3 ∷ 7 ∷ 11 ∷ [])
+    ∷ example (Pixels RgbA) A pixels (4 ∷ 8 ∷ 12 ∷ [])
+    ∷ example (Pixels ARgb) A pixels (1 ∷ 5 ∷ 9 ∷ [])
+    ∷ example (Pixels ARgb) R pixels (2 ∷ 6 ∷ 10 ∷ [])
+    ∷ example (Pixels ARgb) G pixels (3 ∷ 7 ∷ 11 ∷ [])
+    ∷ example (Pixels ARgb) B pixels (4 ∷ 8 ∷ 12 ∷ [])
+    ∷ example (Pixels ABgr) A pixels (1 ∷ 5 ∷ 9 ∷ [])
+    ∷ example (Pixels ABgr) B pixels (2 ∷ 6 ∷ 10 ∷ [])
+    ∷ example (Pixels ABgr) G pixels (3 ∷ 7 ∷ 11 ∷ [])
+    ∷ example (Pixels ABgr) R pixels (4 ∷ 8 ∷ 12 ∷ [])
     ∷ example Planar R pixels (1 ∷ 2 ∷ 3 ∷ 4 ∷ 5 ∷ 6 ∷ 7 ∷ 8 ∷ 9 ∷ 10 ∷ 11 ∷ 12 ∷ 13 ∷ 14 ∷ 15 ∷ [])
     ∷ []

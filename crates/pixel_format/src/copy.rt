@@ -3,21 +3,67 @@ ghost use mathlib.Core.Path.{_≡_};
 ghost use Prim.Native.Nat.{_+_, _≤_, _<_, _/_, min};
 ghost use lib.ListN.{length, take, drop};
 ghost use Rattle.rle_format.specs.Slice.{overwrite, writeAt};
-ghost use Rattle.pixel_format.specs.Channel.{bgrA, offsetOf, strided};
+ghost use Rattle.pixel_format.specs.Channel.{channelOffsets, offsetOf, strided};
+ghost use Rattle.pixel_format.specs.Offsets.{toChannelOffsets};
+use crate::ABgrChannels;
+use crate::ARgbChannels;
 use crate::BgrAChannels;
 use crate::Channel;
+use crate::PixelLayout;
+use crate::RgbAChannels;
 use crate::words::copy_block;
 
+// The offset of each channel in a pixel.
+pub(crate) struct Offsets {
+    pub r: usize,
+    pub g: usize,
+    pub b: usize,
+    pub a: usize,
+}
+
+// The constants of a layout's own type.
+fn offsets_of(layout: PixelLayout) -> Offsets
+    ensures { λ p. ⌜ toChannelOffsets p ≡ channelOffsets layout ⌝ }
+{
+    match layout {
+        PixelLayout::BgrA => Offsets {
+            r: BgrAChannels::R,
+            g: BgrAChannels::G,
+            b: BgrAChannels::B,
+            a: BgrAChannels::A,
+        },
+        PixelLayout::RgbA => Offsets {
+            r: RgbAChannels::R,
+            g: RgbAChannels::G,
+            b: RgbAChannels::B,
+            a: RgbAChannels::A,
+        },
+        PixelLayout::ARgb => Offsets {
+            r: ARgbChannels::R,
+            g: ARgbChannels::G,
+            b: ARgbChannels::B,
+            a: ARgbChannels::A,
+        },
+        PixelLayout::ABgr => Offsets {
+            r: ABgrChannels::R,
+            g: ABgrChannels::G,
+            b: ABgrChannels::B,
+            a: ABgrChannels::A,
+        },
+    }
+}
+
 // The offset of a channel in a pixel. Callers need the second clause for their indices.
-pub(crate) fn offset_of(channel: Channel) -> usize
-    ensures offset { λ r. ⌜ r ≡ offsetOf bgrA channel ⌝ }
+pub(crate) fn offset_of(layout: PixelLayout, channel: Channel) -> usize
+    ensures offset { λ r. ⌜ r ≡ offsetOf (channelOffsets layout) channel ⌝ }
     ensures within { λ r. ⌜ r < 4 ⌝ }
 {
+    let offsets = offsets_of(layout);
     match channel {
-        Channel::R => BgrAChannels::R,
-        Channel::G => BgrAChannels::G,
-        Channel::B => BgrAChannels::B,
-        Channel::A => BgrAChannels::A,
+        Channel::R => offsets.r,
+        Channel::G => offsets.g,
+        Channel::B => offsets.b,
+        Channel::A => offsets.a,
     }
 }
 

@@ -1,4 +1,4 @@
-// Sources of a picture that is packed (FORMAT 7.1): each channel in a slice of its own, or all of them in one slice of pixels.
+// Pixels and channels (FORMAT 7.1): the layouts of four-byte pixels, and the samples of a channel, from a slice of its own or out of pixels.
 mod copy;
 mod words;
 
@@ -11,7 +11,7 @@ use copy::copy_channel;
 use copy::lesser;
 use copy::offset_of;
 
-// Pixels of B, G, R, A: the bytes of a pixel, and the offset of each channel. The name is IronRDP's.
+// Pixels of B, G, R, A: the bytes of a pixel, and the offset of each channel. This name and the next three are IronRDP's.
 pub struct BgrAChannels {}
 
 impl BgrAChannels {
@@ -26,6 +26,65 @@ impl BgrAChannels {
     pub const A: usize = 3;
 }
 
+// Pixels of R, G, B, A.
+pub struct RgbAChannels {}
+
+impl RgbAChannels {
+    pub const STRIDE: usize = 4;
+
+    pub const R: usize = 0;
+
+    pub const G: usize = 1;
+
+    pub const B: usize = 2;
+
+    pub const A: usize = 3;
+}
+
+// Pixels of A, R, G, B.
+pub struct ARgbChannels {}
+
+impl ARgbChannels {
+    pub const STRIDE: usize = 4;
+
+    pub const R: usize = 1;
+
+    pub const G: usize = 2;
+
+    pub const B: usize = 3;
+
+    pub const A: usize = 0;
+}
+
+// Pixels of A, B, G, R.
+pub struct ABgrChannels {}
+
+impl ABgrChannels {
+    pub const STRIDE: usize = 4;
+
+    pub const R: usize = 3;
+
+    pub const G: usize = 2;
+
+    pub const B: usize = 1;
+
+    pub const A: usize = 0;
+}
+
+// The layouts of four-byte pixels, by the order of their bytes.
+pub enum PixelLayout {
+    BgrA,
+    RgbA,
+    ARgb,
+    ABgr,
+}
+
+// The pixels of an image that is unpacked: R, G and B, or four bytes in a layout.
+pub enum PixelFormat {
+    Rgb24,
+    FourBytes(PixelLayout),
+}
+
 pub enum Channel {
     R,
     G,
@@ -33,10 +92,10 @@ pub enum Channel {
     A,
 }
 
-// Planar: every byte of the slice is a sample of the channel. BgrA: one byte of every pixel is.
+// Planar: every byte of the slice is a sample of the channel. Pixels: one byte of every pixel is.
 pub enum Layout {
     Planar,
-    BgrA,
+    Pixels(PixelLayout),
 }
 
 // The number of samples of each channel in a slice; of pixels, those that are complete.
@@ -45,7 +104,7 @@ pub fn sample_count(src: &[u8], layout: Layout) -> usize
 {
     match layout {
         Layout::Planar => src.len(),
-        Layout::BgrA => src.len() / BgrAChannels::STRIDE,
+        Layout::Pixels(_) => src.len() / BgrAChannels::STRIDE,
     }
 }
 
@@ -62,6 +121,6 @@ pub fn read_samples(src: &[u8], layout: Layout, channel: Channel, from: usize, d
         Layout::Planar => {
             bytes::copy(&src[from..from + n], dst);
         }
-        Layout::BgrA => copy_channel(src, offset_of(channel), from, n, dst),
+        Layout::Pixels(pixels) => copy_channel(src, offset_of(pixels, channel), from, n, dst),
     }
 }

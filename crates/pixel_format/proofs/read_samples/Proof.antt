@@ -5,7 +5,7 @@ use lib.ListN.{length}
 use Prim.Native.Nat.{ℕ, _-_, min}
 use Rattle.rle_format.proofs.Slice.{copied-overwrite}
 use Rattle.pixel_format.specs.Channel.{samplesOf}
-use Rattle.pixel_format.proofs.Samples.{read-past-end, planar-count, planar-read, bgra-count, bgra-read}
+use Rattle.pixel_format.proofs.Samples.{read-past-end, planar-count, planar-read, pixels-count, pixels-read}
 use borrow.Author.Needs.{needs}
 use Rattle.pixel_format.proofs.read_samples.Statement.{statement}
 use Rattle.pixel_format.proofs.read_samples.Tie as tie
@@ -47,18 +47,18 @@ part-copy-end c =
 copy-requires : tie.Need-copy-requires
 copy-requires c κs = search needs
 
-enum-told-2 : tie.Need-enum-told-2
-enum-told-2 c = search needs
+enum-known-layout : tie.Need-enum-known-layout
+enum-known-layout c = search needs
 
 offset-of-requires : tie.Need-offset-of-requires
 offset-of-requires c κs = search needs
 
 copy-channel-requires : tie.Need-copy-channel-requires
 copy-channel-requires c κs =
-    let a = c .before .before .before .before .before .before .before .before .before .args in
-    let n = c .before .before .before .before .before .before .sample-count .ensures (a .channel) in
-    let m = bgra-count (a .layout) (a .channel) (a .src .now) (c .before .before .enum-told2 .given .1) in
-    let e = c .before .before .before .before .lesser .ensures in
+    let a = c .before .before .before .before .before .before .before .before .before .before .args in
+    let n = c .before .before .before .before .before .before .before .sample-count .ensures (a .channel) in
+    let m = pixels-count (a .layout) (a .channel) (a .src .now) (c .before .before .before .layout .given .0 .0) (c .before .before .before .layout .given .1) in
+    let e = c .before .before .before .before .before .lesser .ensures in
     (c .before .offset-of .ensures .1, omega arith, omega arith)
 
 same-length : tie.Need-same-length
@@ -77,9 +77,9 @@ same-length-2 c = search needs
 
 returns-3 : tie.Need-returns-3
 returns-3 c =
-    let a = c .before .before .before .before .before .before .before .before .before .before .before .before .args in
-    let n = c .before .before .before .before .before .before .before .before .before .sample-count .ensures (a .channel) in
-    bgra-read (a .layout) (a .channel) (a .src .now) (a .dst .now) _ (a .from) (c .before .before .before .before .before .before .before .lesser .result) (c .before .before .before .before .before .before .before .lesser .ensures ∙ ap (λ (k : ℕ). min (k - a .from) (length (a .dst .now))) n) (c .before .before .before .before .offset-of .result) (c .before .before .before .before .offset-of .ensures .0) (c .before .before .before .before .before .enum-told2 .given .1) (c .before .before .copy-channel .ensures)
+    let a = c .before .before .before .before .before .before .before .before .before .before .before .before .before .args in
+    let n = c .before .before .before .before .before .before .before .before .before .before .sample-count .ensures (a .channel) in
+    pixels-read (a .layout) (a .channel) (a .src .now) (a .dst .now) _ (a .from) (c .before .before .before .before .before .before .before .before .lesser .result) (c .before .before .before .before .before .before .before .before .lesser .ensures ∙ ap (λ (k : ℕ). min (k - a .from) (length (a .dst .now))) n) (c .before .before .before .before .before .before .layout .given .0 .0) (c .before .before .before .before .offset-of .result) (c .before .before .before .before .offset-of .ensures .0) (c .before .before .before .before .before .before .layout .given .1) (c .before .before .copy-channel .ensures)
 
 pub read-samples-spec : {M : Type 1} → statement M
 read-samples-spec =
@@ -95,7 +95,7 @@ read-samples-spec =
     part-copy-start
     part-copy-end
     copy-requires
-    enum-told-2
+    enum-known-layout
     offset-of-requires
     copy-channel-requires
     same-length
