@@ -21,7 +21,8 @@ cLayout layout =
     (Known BgrA)
     (choose (eqb layout 1) (Known RgbA) (choose (eqb layout 2) (Known ARgb) (choose (eqb layout 3) (Known ABgr) Unknown)))
 
--- the answer of a call with an unknown layout: 3, after 1 and 2 and before every other refusal of the same arguments (FORMAT 8.2)
+-- the answer of a call with an unknown layout: 3, unless the sides are refused with 1 or 2 (FORMAT 8.1). For a layout only the C interface gives it,
+-- since the functions that it calls take no unknown one
 unfoldable pub unknownLayout : (width height : ℕ) → Answer
 unknownLayout width height = checkSides refused width height (refused 3)
 

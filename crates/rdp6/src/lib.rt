@@ -148,8 +148,8 @@ fn layout_of(layout: u32) -> CLayout
     }
 }
 
-// The answer of a C function that is called with an unknown layout: refusal 1 or 2 of the sides, or else 3, the number of every argument that means
-// nothing (FORMAT 8.1).
+// The answer of a C function that is called with an unknown layout: refusal 1 or 2 of the sides, or else 3, as for an unknown plane definition
+// (FORMAT 8.1).
 fn layout_refusal(width: usize, height: usize) -> i64
     ensures { λ r. ⌜ r ≡ cNumber (unknownLayout width height) ⌝ }
 {
