@@ -9,12 +9,13 @@ ghost use mathlib.Core.Bool.{true, false};
 ghost use lib.ListN.{length};
 ghost use Rattle.rle_format.specs.Answer.{packedToAnswer};
 ghost use Rattle.rle_format.specs.Slice.{overwrite};
-ghost use Rattle.pixel_format.specs.Channel.{bgrA};
+ghost use Rattle.pixel_format.specs.Channel.{channelOffsets};
 ghost use Rattle.bitmap_format.specs.PackPicture.{threePlanes, fourPlanes, pixelPlanes, pixelPlanesAlpha, packPicture, headerToSend, withHeader, encodedToAnswer};
 use bitmap_format::BitmapStreamHeader;
 use bitmap_format::ColorPlaneDefinition;
 use bitmap_format::Encoded;
 use pixel_format::Layout;
+use pixel_format::PixelLayout;
 use planes::encode_four;
 use planes::encode_three;
 use rle_format::Packed;
@@ -79,32 +80,36 @@ pub fn encode_channels_body_alpha(
     encoded(answer, true, rle)
 }
 
-// Packs a picture from pixels of B, G, R, A, without their alpha.
+// Packs a picture from pixels of the layout (FORMAT 7.1), without their alpha.
 pub fn encode_bitmap_body(
+    layout: PixelLayout,
     src: &[u8],
     dst: &mut [u8],
     rle: bool,
     width: usize,
     height: usize,
 ) -> Encoded
-    ensures answer { λ e. ⌜ encodedToAnswer e ≡ withHeader (headerToSend false rle) (packPicture rle width height (length (now (dst .entry))) (pixelPlanes bgrA (now (src .entry))) .answer) ⌝ }
-    ensures slice { λ _. ⌜ now (dst .exit) ≡ overwrite (now (dst .entry)) (packPicture rle width height (length (now (dst .entry))) (pixelPlanes bgrA (now (src .entry))) .written) ⌝ }
+    ensures answer { λ e. ⌜ encodedToAnswer e ≡ withHeader (headerToSend false rle) (packPicture rle width height (length (now (dst .entry))) (pixelPlanes (channelOffsets layout) (now (src .entry))) .answer) ⌝ }
+    ensures slice { λ _. ⌜ now (dst .exit) ≡ overwrite (now (dst .entry)) (packPicture rle width height (length (now (dst .entry))) (pixelPlanes (channelOffsets layout) (now (src .entry))) .written) ⌝ }
 {
-    let answer = encode_three(src, src, src, Layout::BgrA, dst, rle, width, height);
+    let pixels = Layout::Pixels(layout);
+    let answer = encode_three(src, src, src, pixels, dst, rle, width, height);
     encoded(answer, false, rle)
 }
 
 // The same with their alpha.
 pub fn encode_bitmap_body_alpha(
+    layout: PixelLayout,
     src: &[u8],
     dst: &mut [u8],
     rle: bool,
     width: usize,
     height: usize,
 ) -> Encoded
-    ensures answer { λ e. ⌜ encodedToAnswer e ≡ withHeader (headerToSend true rle) (packPicture rle width height (length (now (dst .entry))) (pixelPlanesAlpha bgrA (now (src .entry))) .answer) ⌝ }
-    ensures slice { λ _. ⌜ now (dst .exit) ≡ overwrite (now (dst .entry)) (packPicture rle width height (length (now (dst .entry))) (pixelPlanesAlpha bgrA (now (src .entry))) .written) ⌝ }
+    ensures answer { λ e. ⌜ encodedToAnswer e ≡ withHeader (headerToSend true rle) (packPicture rle width height (length (now (dst .entry))) (pixelPlanesAlpha (channelOffsets layout) (now (src .entry))) .answer) ⌝ }
+    ensures slice { λ _. ⌜ now (dst .exit) ≡ overwrite (now (dst .entry)) (packPicture rle width height (length (now (dst .entry))) (pixelPlanesAlpha (channelOffsets layout) (now (src .entry))) .written) ⌝ }
 {
-    let answer = encode_four(src, src, src, src, Layout::BgrA, dst, rle, width, height);
+    let pixels = Layout::Pixels(layout);
+    let answer = encode_four(src, src, src, src, pixels, dst, rle, width, height);
     encoded(answer, true, rle)
 }

@@ -8,7 +8,7 @@ ghost use Prim.Native.Nat.{ℕ, _≤_, _<_};
 ghost use lib.ListN.{length};
 ghost use Rattle.rle_format.specs.Answer.{packedToAnswer};
 ghost use Rattle.rle_format.specs.Sides.{checkSides};
-ghost use Rattle.pixel_format.specs.Channel.{bgrA};
+ghost use Rattle.pixel_format.specs.Channel.{channelOffsets};
 ghost use Rattle.bitmap_format.specs.declared.BitmapStreamHeader.{BitmapStreamHeader};
 ghost use Rattle.bitmap_format.specs.Picture.{decodedToAnswer};
 ghost use Rattle.bitmap_format.specs.PackPicture.{threePlanes, fourPlanes, pixelPlanes, pixelPlanesAlpha, encodedToAnswer, dropHeader};
@@ -25,6 +25,7 @@ use bitmap_format::Encoded;
 use bitmap_format::work_size;
 use header::header_from_byte;
 use header::header_to_byte;
+use pixel_format::PixelLayout;
 use rle_format::Packed;
 use rle_format::Refusal;
 
@@ -131,32 +132,40 @@ pub fn encode_channels_stream_alpha(
     write_header_byte(answer, dst)
 }
 
-// Packs a stream from pixels of B, G, R, A, without their alpha.
-pub fn encode_bitmap(src: &[u8], dst: &mut [u8], rle: bool, width: usize, height: usize) -> Packed
-    ensures answer { λ r. ⌜ packedToAnswer r ≡ packPictureStream false rle width height (pixelPlanes bgrA (now (src .entry))) (now (dst .entry)) .answer ⌝ }
-    ensures slice { λ _. ⌜ now (dst .exit) ≡ packPictureStream false rle width height (pixelPlanes bgrA (now (src .entry))) (now (dst .entry)) .slice ⌝ }
-{
-    if dst.len() == 0 {
-        return without_header(encode_bitmap_body(src, dst, rle, width, height));
-    }
-    let answer = encode_bitmap_body(src, &mut dst[1..], rle, width, height);
-    write_header_byte(answer, dst)
-}
-
-// The same with their alpha.
-pub fn encode_bitmap_alpha(
+// Packs a stream from pixels of the layout (FORMAT 7.1), without their alpha.
+pub fn encode_bitmap(
+    layout: PixelLayout,
     src: &[u8],
     dst: &mut [u8],
     rle: bool,
     width: usize,
     height: usize,
 ) -> Packed
-    ensures answer { λ r. ⌜ packedToAnswer r ≡ packPictureStream true rle width height (pixelPlanesAlpha bgrA (now (src .entry))) (now (dst .entry)) .answer ⌝ }
-    ensures slice { λ _. ⌜ now (dst .exit) ≡ packPictureStream true rle width height (pixelPlanesAlpha bgrA (now (src .entry))) (now (dst .entry)) .slice ⌝ }
+    ensures answer { λ r. ⌜ packedToAnswer r ≡ packPictureStream false rle width height (pixelPlanes (channelOffsets layout) (now (src .entry))) (now (dst .entry)) .answer ⌝ }
+    ensures slice { λ _. ⌜ now (dst .exit) ≡ packPictureStream false rle width height (pixelPlanes (channelOffsets layout) (now (src .entry))) (now (dst .entry)) .slice ⌝ }
 {
     if dst.len() == 0 {
-        return without_header(encode_bitmap_body_alpha(src, dst, rle, width, height));
+        return without_header(encode_bitmap_body(layout, src, dst, rle, width, height));
     }
-    let answer = encode_bitmap_body_alpha(src, &mut dst[1..], rle, width, height);
+    let answer = encode_bitmap_body(layout, src, &mut dst[1..], rle, width, height);
+    write_header_byte(answer, dst)
+}
+
+// The same with their alpha.
+pub fn encode_bitmap_alpha(
+    layout: PixelLayout,
+    src: &[u8],
+    dst: &mut [u8],
+    rle: bool,
+    width: usize,
+    height: usize,
+) -> Packed
+    ensures answer { λ r. ⌜ packedToAnswer r ≡ packPictureStream true rle width height (pixelPlanesAlpha (channelOffsets layout) (now (src .entry))) (now (dst .entry)) .answer ⌝ }
+    ensures slice { λ _. ⌜ now (dst .exit) ≡ packPictureStream true rle width height (pixelPlanesAlpha (channelOffsets layout) (now (src .entry))) (now (dst .entry)) .slice ⌝ }
+{
+    if dst.len() == 0 {
+        return without_header(encode_bitmap_body_alpha(layout, src, dst, rle, width, height));
+    }
+    let answer = encode_bitmap_body_alpha(layout, src, &mut dst[1..], rle, width, height);
     write_header_byte(answer, dst)
 }

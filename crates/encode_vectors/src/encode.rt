@@ -1,13 +1,14 @@
 // Replays one case of packing a picture, from its channels or from its pixels, into a body or into a whole stream. The case is one
 // line:
 //     WIDTH HEIGHT RLE ALPHA ROOM ANSWER SENTRLE SENTALPHA SENTDEFINITION R G B A AFTER
-//     WIDTH HEIGHT RLE ALPHA ROOM ANSWER SENTRLE SENTALPHA SENTDEFINITION PIXELS AFTER
+//     WIDTH HEIGHT LAYOUT RLE ALPHA ROOM ANSWER SENTRLE SENTALPHA SENTDEFINITION PIXELS AFTER
 //     WIDTH HEIGHT RLE ALPHA ROOM ANSWER R G B A AFTER
-//     WIDTH HEIGHT RLE ALPHA ROOM ANSWER PIXELS AFTER
-// RLE is 0 or 1. ALPHA is 1 for the function that packs alpha; if it is 0, A is a hyphen. ROOM is the length of the destination.
-// ANSWER is the number of bytes written, or the negative of a refusal's number. AFTER has all bytes of the destination after the
-// call. SENTRLE, SENTALPHA and SENTDEFINITION are the header record returned with a body (FORMAT 7.5), 0 or 1 each; a SENTDEFINITION
-// of 0 is ARGB. A refusal returns no header record, and they are ignored. Bytes are written as in a plane's line.
+//     WIDTH HEIGHT LAYOUT RLE ALPHA ROOM ANSWER PIXELS AFTER
+// LAYOUT is that of the pixels (FORMAT 7.1): 0 is BGRA, 1 RGBA, 2 ARGB, 3 ABGR. RLE is 0 or 1. ALPHA is 1 for the function that packs
+// alpha; if it is 0, A is a hyphen. ROOM is the length of the destination. ANSWER is the number of bytes written, or the negative of a
+// refusal's number. AFTER has all bytes of the destination after the call. SENTRLE, SENTALPHA and SENTDEFINITION are the header record
+// returned with a body (FORMAT 7.5), 0 or 1 each; a SENTDEFINITION of 0 is ARGB. A refusal returns no header record, and they are
+// ignored. Bytes are written as in a plane's line.
 use bitmap_format::BitmapStreamHeader;
 use bitmap_format::ColorPlaneDefinition;
 use bitmap_format::Encoded;
@@ -21,6 +22,7 @@ use case_lines::read::ParsedAnswer;
 use case_lines::report;
 use case_lines::report::Answer;
 use case_lines::report::LineResult;
+use pixel_format::PixelLayout;
 use rle_format::Packed;
 ghost use Prim.Native.Nat.{_+_, _≤_};
 ghost use lib.ListN.{length};
@@ -37,18 +39,26 @@ pub(crate) enum ResultKind {
     Stream,
 }
 
-// The indexes of the numbers before the answer, and how many there are.
+// The indexes of the first numbers, and how many there are.
 const WIDTH: usize = 0;
 
 const HEIGHT: usize = 1;
 
-const RLE: usize = 2;
+const SIDE_COUNT: usize = 2;
 
-const ALPHA: usize = 3;
+// The same for the number after them, which only the line of pixels has.
+const LAYOUT: usize = 0;
 
-const ROOM: usize = 4;
+const LAYOUT_COUNT: usize = 1;
 
-const COUNT_BEFORE_ANSWER: usize = 5;
+// The same for the numbers before the answer.
+const RLE: usize = 0;
+
+const ALPHA: usize = 1;
+
+const ROOM: usize = 2;
+
+const COUNT_BEFORE_ANSWER: usize = 3;
 
 // The same for the numbers after it, which only the line of a body has.
 const SENT_RLE: usize = 0;
@@ -66,12 +76,13 @@ struct ExpectedHeader {
     argb: bool,
 }
 
-// The numbers of a case, and the index of its first source field.
+// The numbers of a case, and the index of its first source field. The layout is not used for channels.
 struct Case {
     source: SourceKind,
     result: ResultKind,
     width: usize,
     height: usize,
+    layout: PixelLayout,
     rle: bool,
     alpha: bool,
     room: usize,
@@ -82,6 +93,11 @@ struct Case {
 
 enum ParsedCase {
     Value(Case),
+    Malformed,
+}
+
+enum ParsedLayout {
+    Value(PixelLayout),
     Malformed,
 }
 
@@ -165,9 +181,16 @@ fn replay_with_buffers(
 
 // Reads the numbers of a case.
 fn parse_case(source: SourceKind, result: ResultKind, line: &[u8]) -> ParsedCase {
+    let mut sides = [0usize; MAX_NUMBERS];
+    let mut layouts = [0usize; MAX_NUMBERS];
     let mut numbers = [0usize; MAX_NUMBERS];
     let mut sent = [0usize; MAX_NUMBERS];
-    let start = read::next_numbers(line, 0, COUNT_BEFORE_ANSWER, &mut numbers);
+    let after_sides = read::next_numbers(line, 0, SIDE_COUNT, &mut sides);
+    let after_layout = read::next_numbers(line, after_sides, layout_count(source), &mut layouts);
+    let start = read::next_numbers(line, after_layout, COUNT_BEFORE_ANSWER, &mut numbers);
+    let ParsedLayout::Value(layout) = layout_of(layouts[LAYOUT]) else {
+        return ParsedCase::Malformed;
+    };
     let ParsedAnswer::Value { answer, next } = read::next_answer(line, start) else {
         return ParsedCase::Malformed;
     };
@@ -186,8 +209,9 @@ fn parse_case(source: SourceKind, result: ResultKind, line: &[u8]) -> ParsedCase
     ParsedCase::Value(Case {
         source,
         result,
-        width: numbers[WIDTH],
-        height: numbers[HEIGHT],
+        width: sides[WIDTH],
+        height: sides[HEIGHT],
+        layout,
         rle: numbers[RLE] == 1,
         alpha: numbers[ALPHA] == 1,
         room: numbers[ROOM],
@@ -199,6 +223,24 @@ fn parse_case(source: SourceKind, result: ResultKind, line: &[u8]) -> ParsedCase
         },
         next: end,
     })
+}
+
+// How many numbers a line has for the layout.
+fn layout_count(source: SourceKind) -> usize {
+    match source {
+        SourceKind::Channels => 0,
+        SourceKind::Pixels => LAYOUT_COUNT,
+    }
+}
+
+fn layout_of(number: usize) -> ParsedLayout {
+    match number {
+        0 => ParsedLayout::Value(PixelLayout::BgrA),
+        1 => ParsedLayout::Value(PixelLayout::RgbA),
+        2 => ParsedLayout::Value(PixelLayout::ARgb),
+        3 => ParsedLayout::Value(PixelLayout::ABgr),
+        _ => ParsedLayout::Malformed,
+    }
 }
 
 // How many numbers a line has after the answer.
@@ -366,23 +408,25 @@ fn pack_channels_stream(
 }
 
 fn pack_pixels_body(case: Case, pixels: &[u8], dst: &mut [u8]) -> Encoded {
+    let layout = case.layout;
     let rle = case.rle;
     let width = case.width;
     let height = case.height;
     if case.alpha {
-        return bitmap_encoder::encode_bitmap_body_alpha(pixels, dst, rle, width, height);
+        return bitmap_encoder::encode_bitmap_body_alpha(layout, pixels, dst, rle, width, height);
     }
-    bitmap_encoder::encode_bitmap_body(pixels, dst, rle, width, height)
+    bitmap_encoder::encode_bitmap_body(layout, pixels, dst, rle, width, height)
 }
 
 fn pack_pixels_stream(case: Case, pixels: &[u8], dst: &mut [u8]) -> Packed {
+    let layout = case.layout;
     let rle = case.rle;
     let width = case.width;
     let height = case.height;
     if case.alpha {
-        return bitmap_stream::encode_bitmap_alpha(pixels, dst, rle, width, height);
+        return bitmap_stream::encode_bitmap_alpha(layout, pixels, dst, rle, width, height);
     }
-    bitmap_stream::encode_bitmap(pixels, dst, rle, width, height)
+    bitmap_stream::encode_bitmap(layout, pixels, dst, rle, width, height)
 }
 
 // What the packer of a body returned. A refusal returns no header record.

@@ -1,3 +1,4 @@
 mod Examples
 mod Numbers
 mod Header
+mod Layouts

@@ -4,36 +4,72 @@ use Prim.Native.Nat.{ℕ}
 use mathlib.Core.Bool.{Bool, true, false}
 use mathlib.Core.List.{List, [], _∷_}
 use lib.IntN.{ℤ, pos, negsuc}
-use Rattle.rle_format.specs.Answer.{Answer, counted, refused}
+use Rattle.rle_format.specs.Answer.{Answer, counted, refused, Outcome}
+use Rattle.pixel_format.specs.declared.PixelLayout.the-variants.{BgrA, RgbA, ARgb, ABgr}
 use Rattle.bitmap_format.specs.declared.BitmapStreamHeader.{BitmapStreamHeader}
 use Rattle.bitmap_format.specs.declared.ColorPlaneDefinition.the-variants.{Argb, AYCoCg}
 use Rattle.bitmap_format.specs.Examples as pictures
+use Rattle.bitmap_format.specs.Stream.{StreamOutcome}
+use Rattle.rdp6.specs.declared.CLayout.{CLayout}
+use Rattle.rdp6.specs.declared.CLayout.the-variants.{Known, Unknown}
 use Rattle.rdp6.specs.Number.{cNumber}
 use Rattle.rdp6.specs.Header.{cHeader}
+use Rattle.rdp6.specs.Layout.{cLayout, unknownLayout, cPackPixels, cPackPixelsStream}
 
 pub data Example : Type 0 where
   -- the arguments of a C function, and the header record
   takes : (rle alpha : Bool) (definition level : ℕ) (subsampling : Bool) → BitmapStreamHeader → Example
   -- an answer, and the number that a C function returns
   returns : Answer → ℤ → Example
+  -- a number, and the layout that it means
+  means : (number : ℕ) → CLayout → Example
+  -- the sides, and the answer of a call with an unknown layout
+  refuses : (width height : ℕ) → Answer → Example
+  -- the number of a layout, and pixels that are packed into a body, or into a stream
+  packs : (number : ℕ) (alpha rle : Bool) (width height room : ℕ) (pixels : List ℕ) → Outcome → Example
+  packsStream : (number : ℕ) (alpha rle : Bool) (width height : ℕ) (pixels dst : List ℕ) → StreamOutcome → Example
 
--- a header record or a returned number
+-- what a number or a call means
 pub data Meaning : Type 0 where
   header : BitmapStreamHeader → Meaning
   number : ℤ → Meaning
+  layout : CLayout → Meaning
+  answer : Answer → Meaning
+  body : Outcome → Meaning
+  stream : StreamOutcome → Meaning
 
 -- what the definitions compute
 abbrev pub computed : Example → Meaning
 computed (takes rle alpha definition level s h) = header (cHeader rle alpha definition level s)
 computed (returns a n) = number (cNumber a)
+computed (means n l) = layout (cLayout n)
+computed (refuses width height a) = answer (unknownLayout width height)
+computed (packs n alpha rle width height room pixels o) = body (cPackPixels alpha rle width height room pixels (cLayout n))
+computed (packsStream n alpha rle width height pixels dst o) = stream (cPackPixelsStream alpha rle width height pixels dst (cLayout n))
 
 -- what is expected
 abbrev pub expected : Example → Meaning
 expected (takes rle alpha definition level s h) = header h
 expected (returns a n) = number n
+expected (means n l) = layout l
+expected (refuses width height a) = answer a
+expected (packs n alpha rle width height room pixels o) = body o
+expected (packsStream n alpha rle width height pixels dst o) = stream o
 
--- ARGB, whatever level and subsampling are; AYCoCg with the least and the greatest level; a level over 7 and an unknown definition, both taken
--- for level 0. The last number is −7
+abbrev pub outcome : (written : List ℕ) → Answer → Outcome
+outcome written a = record { written = written; answer = a }
+
+abbrev pub streamOutcome : (slice : List ℕ) → Answer → StreamOutcome
+streamOutcome slice a = record { slice = slice; answer = a }
+
+-- two pixels
+abbrev pub pixels : List ℕ
+pixels = 1 ∷ 2 ∷ 3 ∷ 4 ∷ 5 ∷ 6 ∷ 7 ∷ 8 ∷ []
+
+-- header records: ARGB, whatever level and subsampling are; AYCoCg with the least and the greatest level; a level over 7 and an unknown
+-- definition, both taken for level 0. Returned numbers, the last −7. Layouts, and numbers that mean none: 256 and 4,294,967,295 are among them.
+-- The sides before an unknown layout. Two pixels packed raw as RGBA without alpha, as ARGB with it, and one as RLE; a stream of ABGR, with room for a
+-- byte more. An unknown layout comes before pixels that are missing, and changes nothing
 abbrev pub examples : List Example
 examples =
     takes true false 0 5 true (pictures.header true false Argb)
@@ -43,4 +79,23 @@ examples =
     ∷ takes false false 2 3 false (pictures.header false false (AYCoCg 0 false))
     ∷ returns (counted 5) (pos 5)
     ∷ returns (refused 7) (negsuc 6)
+    ∷ means 0 (Known BgrA)
+    ∷ means 1 (Known RgbA)
+    ∷ means 2 (Known ARgb)
+    ∷ means 3 (Known ABgr)
+    ∷ means 4 Unknown
+    ∷ means 256 Unknown
+    ∷ means 4294967295 Unknown
+    ∷ refuses 0 8193 (refused 1)
+    ∷ refuses 8193 0 (refused 1)
+    ∷ refuses 8193 1 (refused 2)
+    ∷ refuses 1 8193 (refused 2)
+    ∷ refuses 8192 8192 (refused 3)
+    ∷ packs 1 false false 2 1 7 pixels (outcome (1 ∷ 5 ∷ 2 ∷ 6 ∷ 3 ∷ 7 ∷ 0 ∷ []) (counted 7))
+    ∷ packs 2 true false 2 1 9 pixels (outcome (1 ∷ 5 ∷ 2 ∷ 6 ∷ 3 ∷ 7 ∷ 4 ∷ 8 ∷ 0 ∷ []) (counted 9))
+    ∷ packs 0 false true 1 1 6 pixels (outcome (16 ∷ 3 ∷ 16 ∷ 2 ∷ 16 ∷ 1 ∷ []) (counted 6))
+    ∷ packs 4 false false 2 1 7 [] (outcome [] (refused 3))
+    ∷ packsStream 3 false false 2 1 pixels (9 ∷ 9 ∷ 9 ∷ 9 ∷ 9 ∷ 9 ∷ 9 ∷ 9 ∷ 9 ∷ []) (streamOutcome (32 ∷ 4 ∷ 8 ∷ 3 ∷ 7 ∷ 2 ∷ 6 ∷ 0 ∷ 9 ∷ []) (counted 8))
+    ∷ packsStream 0 true true 1 1 pixels (9 ∷ 9 ∷ 9 ∷ 9 ∷ 9 ∷ 9 ∷ 9 ∷ 9 ∷ 9 ∷ []) (streamOutcome (48 ∷ 16 ∷ 4 ∷ 16 ∷ 3 ∷ 16 ∷ 2 ∷ 16 ∷ 1 ∷ []) (counted 9))
+    ∷ packsStream 256 true false 2 1 [] (9 ∷ 9 ∷ []) (streamOutcome (9 ∷ 9 ∷ []) (refused 3))
     ∷ []

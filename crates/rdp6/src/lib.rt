@@ -1,5 +1,5 @@
 // The C interface of librdp6.a; include/rdp6.h has the prototypes. A slice is passed as a pointer and a length. Each function calls one function of
-// another crate and returns its answer as one number (FORMAT 8.4).
+// another crate and returns its answer as one number (FORMAT 8.4). Only an unknown layout is refused here.
 ghost use mathlib.Core.Path.{_≡_};
 ghost use mathlib.Core.Bool.{true, false};
 ghost use Prim.Native.Nat.{ℕ, _≤_, _<_};
@@ -11,11 +11,11 @@ ghost use Rattle.rle_format.specs.Unpack.{unpackPlane};
 ghost use Rattle.rle_format.specs.Pack.{packPlane};
 ghost use Rattle.bitmap_format.specs.Sizes.{workSize, imageSize};
 ghost use Rattle.bitmap_format.specs.Picture.{unpackPicture, decodedToAnswer};
-ghost use Rattle.pixel_format.specs.Channel.{bgrA};
-ghost use Rattle.bitmap_format.specs.PackPicture.{threePlanes, fourPlanes, pixelPlanes, pixelPlanesAlpha, packPicture, encodedToAnswer, dropHeader};
+ghost use Rattle.bitmap_format.specs.PackPicture.{threePlanes, fourPlanes, packPicture, encodedToAnswer, dropHeader};
 ghost use Rattle.bitmap_format.specs.Stream.{unpackStream, streamWorkSize, packPictureStream};
 ghost use Rattle.rdp6.specs.Number.{cNumber};
 ghost use Rattle.rdp6.specs.Header.{cLevel, cDefinition, cHeader};
+ghost use Rattle.rdp6.specs.Layout.{cLayout, unknownLayout, cPackPixels, cPackPixelsStream};
 use bitmap_format::BitmapStreamHeader;
 use bitmap_format::ColorPlaneDefinition;
 use bitmap_format::Decoded;
@@ -26,6 +26,8 @@ use bitmap_stream::encode_bitmap_alpha;
 use bitmap_stream::encode_channels_stream;
 use bitmap_stream::encode_channels_stream_alpha;
 use bitmap_stream::stream_work_size;
+use pixel_format::PixelLayout;
+use rle_format::MAX_SIDE;
 use rle_format::Packed;
 use rle_format::Refusal;
 use rle_format::Unpacked;
@@ -125,6 +127,45 @@ fn header_of(
         use_alpha: alpha,
         color_plane_definition: definition_of(definition, level, subsampling),
     }
+}
+
+// The layout of the pixels that a C function is called with.
+pub(crate) enum CLayout {
+    Known(PixelLayout),
+    Unknown,
+}
+
+// The layout, from an argument of a C function. The number is not narrowed before it is compared: 256 is not BGRA.
+fn layout_of(layout: u32) -> CLayout
+    ensures { λ r. ⌜ r ≡ cLayout layout ⌝ }
+{
+    match layout {
+        0 => CLayout::Known(PixelLayout::BgrA),
+        1 => CLayout::Known(PixelLayout::RgbA),
+        2 => CLayout::Known(PixelLayout::ARgb),
+        3 => CLayout::Known(PixelLayout::ABgr),
+        _ => CLayout::Unknown,
+    }
+}
+
+// The answer of a C function that is called with an unknown layout: refusal 1 or 2 of the sides, or else 3, as for an unknown plane definition
+// (FORMAT 8.1).
+fn layout_refusal(width: usize, height: usize) -> i64
+    ensures { λ r. ⌜ r ≡ cNumber (unknownLayout width height) ⌝ }
+{
+    if width == 0 {
+        return refusal_number(Refusal::ZeroSize);
+    }
+    if height == 0 {
+        return refusal_number(Refusal::ZeroSize);
+    }
+    if MAX_SIDE < width {
+        return refusal_number(Refusal::TooLarge);
+    }
+    if MAX_SIDE < height {
+        return refusal_number(Refusal::TooLarge);
+    }
+    refusal_number(Refusal::LossLevel)
 }
 
 #[no_mangle]
@@ -232,31 +273,41 @@ pub extern "C" fn rdp6_encode_channels_alpha(
 
 #[no_mangle]
 pub extern "C" fn rdp6_encode_bitmap(
+    layout: u32,
     src: &[u8],
     dst: &mut [u8],
     rle: bool,
     width: usize,
     height: usize,
 ) -> i64
-    ensures answer { λ n. ⌜ n ≡ cNumber (packPicture rle width height (length (now (dst .entry))) (pixelPlanes bgrA (now (src .entry))) .answer) ⌝ }
-    ensures slice { λ _. ⌜ now (dst .exit) ≡ overwrite (now (dst .entry)) (packPicture rle width height (length (now (dst .entry))) (pixelPlanes bgrA (now (src .entry))) .written) ⌝ }
+    ensures answer { λ n. ⌜ n ≡ cNumber (cPackPixels false rle width height (length (now (dst .entry))) (now (src .entry)) (cLayout layout) .answer) ⌝ }
+    ensures slice { λ _. ⌜ now (dst .exit) ≡ overwrite (now (dst .entry)) (cPackPixels false rle width height (length (now (dst .entry))) (now (src .entry)) (cLayout layout) .written) ⌝ }
 {
-    let answer = bitmap_encoder::encode_bitmap_body(src, dst, rle, width, height);
+    let known = layout_of(layout);
+    let CLayout::Known(pixels) = known else {
+        return layout_refusal(width, height);
+    };
+    let answer = bitmap_encoder::encode_bitmap_body(pixels, src, dst, rle, width, height);
     encoded_number(answer)
 }
 
 #[no_mangle]
 pub extern "C" fn rdp6_encode_bitmap_alpha(
+    layout: u32,
     src: &[u8],
     dst: &mut [u8],
     rle: bool,
     width: usize,
     height: usize,
 ) -> i64
-    ensures answer { λ n. ⌜ n ≡ cNumber (packPicture rle width height (length (now (dst .entry))) (pixelPlanesAlpha bgrA (now (src .entry))) .answer) ⌝ }
-    ensures slice { λ _. ⌜ now (dst .exit) ≡ overwrite (now (dst .entry)) (packPicture rle width height (length (now (dst .entry))) (pixelPlanesAlpha bgrA (now (src .entry))) .written) ⌝ }
+    ensures answer { λ n. ⌜ n ≡ cNumber (cPackPixels true rle width height (length (now (dst .entry))) (now (src .entry)) (cLayout layout) .answer) ⌝ }
+    ensures slice { λ _. ⌜ now (dst .exit) ≡ overwrite (now (dst .entry)) (cPackPixels true rle width height (length (now (dst .entry))) (now (src .entry)) (cLayout layout) .written) ⌝ }
 {
-    let answer = bitmap_encoder::encode_bitmap_body_alpha(src, dst, rle, width, height);
+    let known = layout_of(layout);
+    let CLayout::Known(pixels) = known else {
+        return layout_refusal(width, height);
+    };
+    let answer = bitmap_encoder::encode_bitmap_body_alpha(pixels, src, dst, rle, width, height);
     encoded_number(answer)
 }
 
@@ -317,28 +368,38 @@ pub extern "C" fn rdp6_stream_encode_channels_alpha(
 
 #[no_mangle]
 pub extern "C" fn rdp6_stream_encode_bitmap(
+    layout: u32,
     src: &[u8],
     dst: &mut [u8],
     rle: bool,
     width: usize,
     height: usize,
 ) -> i64
-    ensures answer { λ n. ⌜ n ≡ cNumber (packPictureStream false rle width height (pixelPlanes bgrA (now (src .entry))) (now (dst .entry)) .answer) ⌝ }
-    ensures slice { λ _. ⌜ now (dst .exit) ≡ packPictureStream false rle width height (pixelPlanes bgrA (now (src .entry))) (now (dst .entry)) .slice ⌝ }
+    ensures answer { λ n. ⌜ n ≡ cNumber (cPackPixelsStream false rle width height (now (src .entry)) (now (dst .entry)) (cLayout layout) .answer) ⌝ }
+    ensures slice { λ _. ⌜ now (dst .exit) ≡ cPackPixelsStream false rle width height (now (src .entry)) (now (dst .entry)) (cLayout layout) .slice ⌝ }
 {
-    packed_number(encode_bitmap(src, dst, rle, width, height))
+    let known = layout_of(layout);
+    let CLayout::Known(pixels) = known else {
+        return layout_refusal(width, height);
+    };
+    packed_number(encode_bitmap(pixels, src, dst, rle, width, height))
 }
 
 #[no_mangle]
 pub extern "C" fn rdp6_stream_encode_bitmap_alpha(
+    layout: u32,
     src: &[u8],
     dst: &mut [u8],
     rle: bool,
     width: usize,
     height: usize,
 ) -> i64
-    ensures answer { λ n. ⌜ n ≡ cNumber (packPictureStream true rle width height (pixelPlanesAlpha bgrA (now (src .entry))) (now (dst .entry)) .answer) ⌝ }
-    ensures slice { λ _. ⌜ now (dst .exit) ≡ packPictureStream true rle width height (pixelPlanesAlpha bgrA (now (src .entry))) (now (dst .entry)) .slice ⌝ }
+    ensures answer { λ n. ⌜ n ≡ cNumber (cPackPixelsStream true rle width height (now (src .entry)) (now (dst .entry)) (cLayout layout) .answer) ⌝ }
+    ensures slice { λ _. ⌜ now (dst .exit) ≡ cPackPixelsStream true rle width height (now (src .entry)) (now (dst .entry)) (cLayout layout) .slice ⌝ }
 {
-    packed_number(encode_bitmap_alpha(src, dst, rle, width, height))
+    let known = layout_of(layout);
+    let CLayout::Known(pixels) = known else {
+        return layout_refusal(width, height);
+    };
+    packed_number(encode_bitmap_alpha(pixels, src, dst, rle, width, height))
 }

@@ -9,7 +9,8 @@ use lib.ListN.{length, take, drop, set, getD, length-drop}
 use lib.Seq.{take-suc, take-suc-set, take-at, length-take-le, getD-take, getD-drop, drop-drop}
 use Rattle.pixel_format.specs.declared.Channel.{Channel}
 use Rattle.pixel_format.specs.declared.Layout.{Layout}
-use Rattle.pixel_format.specs.declared.Layout.the-variants.{Planar, BgrA}
+use Rattle.pixel_format.specs.declared.Layout.the-variants.{Planar, Pixels}
+use Rattle.pixel_format.specs.declared.PixelLayout.{PixelLayout}
 use Rattle.pixel_format.specs.Channel.{samplesOf}
 use Rattle.rle_format.specs.Delta.{deltaCode, zipWith}
 use Rattle.rle_format.specs.Slice.{overwrite}
@@ -78,11 +79,11 @@ pub above-end : (r width : ℕ) → (r ≡ 0 → ⊥) → (r - 1) * width + widt
 above-end zero width h = absurd (h refl)
 above-end (suc r) width h = let z : suc r - 1 ≡ r = omega arith in ap (λ (k : ℕ). k * width + width) z ∙ sym (suc-mul r width)
 
--- ---- the two layouts
+-- ---- the two kinds of layout
 
 module _ (l : Layout) (c : Channel) (s : List ℕ) where
   pub planar-are : l ≡ Planar → s ≡ samplesOf l c s
   planar-are e = ap (λ (k : Layout). samplesOf k c s) (sym e)
 
-pub bgra-apart : (l : Layout) → l ≡ BgrA → l ≡ Planar → ⊥
-bgra-apart l e f = let z : _≡_ {A = ℕ} 0 1 = cc in absurd (omega arith)
+pub pixels-not-planar : (l : Layout) (p : PixelLayout) → l ≡ Pixels p → l ≡ Planar → ⊥
+pixels-not-planar l p e f = let z : _≡_ {A = ℕ} 0 1 = cc in absurd (omega arith)

@@ -109,6 +109,6 @@ pub(crate) fn code_row(
 {
     match layout {
         Layout::Planar => code_plane_row(src, r, width, codes),
-        Layout::BgrA => code_pixel_row(src, layout, channel, r, width, above, codes),
+        Layout::Pixels(_) => code_pixel_row(src, layout, channel, r, width, above, codes),
     }
 }

@@ -1,33 +1,57 @@
--- `rdp6_encode_bitmap_alpha`: what the entry ensures, its answer as a number. Assumes nothing.
-use mathlib.Core.Path.{_≡_, ap, _∙_}
+-- `rdp6_encode_bitmap_alpha`: what the entry ensures, its answer as a number; or the refusal of an unknown layout. Assumes nothing.
+use mathlib.Core.Path.{_≡_, sym, ap, _∙_}
+use mathlib.Core.Bool.{true}
 use Prim.Native.Nat.{ℕ, _<_}
 use native.Mathlib.Omega.{arith}
 use lib.ListN.{length}
 use mir.Facts.{toZ-ofZ}
 use mir.Val.{SFits}
 use mir.Syntax.{w64}
-use Rattle.pixel_format.specs.Channel.{bgrA}
+use Rattle.rle_format.specs.Answer.{Outcome}
+use Rattle.rle_format.specs.Slice.{overwrite}
+use Rattle.rle_format.proofs.Outcome.{stop-writes-nothing}
 use Rattle.bitmap_format.specs.declared.BitmapStreamHeader.{BitmapStreamHeader}
 use Rattle.bitmap_format.specs.declared.Encoded.the-variants.{Written}
-use Rattle.bitmap_format.specs.PackPicture.{pixelPlanesAlpha, packPicture, encodedToAnswer, dropHeader}
+use Rattle.bitmap_format.specs.PackPicture.{encodedToAnswer, dropHeader}
 use Rattle.rdp6.specs.Number.{cNumber}
+use Rattle.rdp6.specs.Layout.{cPackPixels, unknownLayout}
+use Rattle.rdp6.proofs.Layouts.{unknown-fits}
 use Rattle.rdp6.proofs.Numbers.{encoded-fits, answer-without-header, encoded-count-max}
 use borrow.Author.Needs.{needs}
 use Rattle.rdp6.proofs.rdp6_encode_bitmap_alpha.Statement.{statement}
 use Rattle.rdp6.proofs.rdp6_encode_bitmap_alpha.Tie as tie
 
--- the entry's answer, without the header record
-answered : (c : tie.After-encode-bitmap-body-alpha) → let a = c .before .before .before .before .args in dropHeader (encodedToAnswer (c .encode-bitmap-body-alpha .result)) ≡ packPicture (a .rle) (a .width) (a .height) (length (a .dst .now)) (pixelPlanesAlpha bgrA (a .src .now)) .answer
-answered c = answer-without-header (c .encode-bitmap-body-alpha .result) _ _ (c .encode-bitmap-body-alpha .ensures .0)
+layout-of-requires : tie.Need-layout-of-requires
+layout-of-requires c κs = search needs
+
+enum-known-known : tie.Need-enum-known-known
+enum-known-known c = search needs
+
+enum-told : tie.Need-enum-told
+enum-told c = search needs
+
+layout-refusal-requires : tie.Need-layout-refusal-requires
+layout-refusal-requires c κs = search needs
+
+-- an unknown layout
+returns : tie.Need-returns
+returns c =
+    let a = c .before .before .before .before .before .before .args in
+    let is = sym (c .before .before .before .layout-of .ensures) ∙ c .before .enum-told .given .1 in
+    let o = ap (cPackPixels true (a .rle) (a .width) (a .height) (length (a .dst .now)) (a .src .now)) is in
+    let left = stop-writes-nothing (a .dst .now) _ (unknownLayout (a .width) (a .height)) o in
+    let f : SFits w64 (c .layout-refusal .result) = rw (c .layout-refusal .ensures) (unknown-fits (a .width) (a .height)) in
+    (toZ-ofZ f ∙ c .layout-refusal .ensures ∙ ap cNumber (left .0), left .1)
+
+encode-bitmap-body-alpha-requires : tie.Need-encode-bitmap-body-alpha-requires
+encode-bitmap-body-alpha-requires c κs = search needs
 
 -- a picture that was packed has fewer bytes than a slice can have
 few : (c : tie.After-encode-bitmap-body-alpha) (n : ℕ) (header : BitmapStreamHeader) → c .encode-bitmap-body-alpha .result ≡ Written n header → n < 9223372036854775808
 few c =
-    let s = c .before .before .before .before in
-    encoded-count-max _ _ _ _ _ (c .encode-bitmap-body-alpha .result) (answered c) (omega (arith, s .good .1 .0 .1))
-
-encode-bitmap-body-alpha-requires : tie.Need-encode-bitmap-body-alpha-requires
-encode-bitmap-body-alpha-requires c κs = search needs
+    let s = c .before .before .before .before .before .before .before .before in
+    let p = c .encode-bitmap-body-alpha in
+    encoded-count-max _ _ _ _ _ (p .result) (answer-without-header (p .result) _ _ (p .ensures .0)) (omega (arith, s .good .1 .1 .0 .1))
 
 encoded-number-requires : tie.Need-encoded-number-requires
 encoded-number-requires c κs = few (c .before .before)
@@ -35,11 +59,29 @@ encoded-number-requires c κs = few (c .before .before)
 same-length : tie.Need-same-length
 same-length c = search needs
 
-returns : tie.Need-returns
-returns c =
+-- a known one
+returns-2 : tie.Need-returns-2
+returns-2 c =
     let d = c .before .before .before in
-    let f : SFits w64 (c .encoded-number .result) = rw (c .encoded-number .ensures) (encoded-fits (d .encode-bitmap-body-alpha .result) (few d)) in
-    (toZ-ofZ f ∙ c .encoded-number .ensures ∙ ap cNumber (answered d), d .encode-bitmap-body-alpha .ensures .1)
+    let a = d .before .before .before .before .before .before .before .before .args in
+    let p = d .encode-bitmap-body-alpha in
+    let is = sym (d .before .before .before .before .before .layout-of .ensures) ∙ d .before .before .before .known .given .1 in
+    let o = ap (cPackPixels true (a .rle) (a .width) (a .height) (length (a .dst .now)) (a .src .now)) is in
+    let f : SFits w64 (c .encoded-number .result) = rw (c .encoded-number .ensures) (encoded-fits (p .result) (few d)) in (
+      toZ-ofZ f ∙ c .encoded-number .ensures ∙ ap cNumber (answer-without-header (p .result) _ _ (p .ensures .0) ∙ ap (λ (x : Outcome). x .answer) (sym o)),
+      p .ensures .1 ∙ ap (λ (x : Outcome). overwrite (a .dst .now) (x .written)) (sym o),
+    )
 
 pub rdp6-encode-bitmap-alpha-spec : {M : Type 1} → statement M
-rdp6-encode-bitmap-alpha-spec = tie.close (tie.spec encode-bitmap-body-alpha-requires encoded-number-requires same-length returns)
+rdp6-encode-bitmap-alpha-spec =
+    tie.close
+    (tie.spec
+    layout-of-requires
+    enum-known-known
+    enum-told
+    layout-refusal-requires
+    returns
+    encode-bitmap-body-alpha-requires
+    encoded-number-requires
+    same-length
+    returns-2)

@@ -5,7 +5,7 @@ use Prim.Native.Nat.{ℕ}
 use native.Mathlib.Omega.{arith}
 use lib.ListN.{length}
 use Rattle.rle_format.specs.Pack.{codesAt}
-use Rattle.rle_encoder.proofs.Below.{planar-are, bgra-apart}
+use Rattle.rle_encoder.proofs.Below.{planar-are, pixels-not-planar}
 use borrow.Author.Needs.{needs}
 use Rattle.rle_encoder.proofs.delta.code_row.Statement.{statement}
 use Rattle.rle_encoder.proofs.delta.code_row.Tie as tie
@@ -25,7 +25,7 @@ enum-told-2 c = search needs
 code-pixel-row-requires : tie.Need-code-pixel-row-requires
 code-pixel-row-requires c κs =
     let a = c .before .before .before .before .before .before .before .args in
-    (omega arith, omega arith, omega arith, omega arith, omega arith, c .before .before .before .before .before .before .before .pre .5 (bgra-apart (a .layout) (c .before .before .enum-told2 .given .1)))
+    (omega arith, omega arith, omega arith, omega arith, omega arith, c .before .before .before .before .before .before .before .pre .5 (pixels-not-planar (a .layout) _ (c .before .before .enum-told2 .given .1)))
 
 same-length : tie.Need-same-length
 same-length c = search needs
