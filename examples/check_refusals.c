@@ -118,34 +118,6 @@ static const uint8_t two_pixels[4][8] = {
 };
 static const uint8_t their_stream[] = {0x10, 0x20, 1, 2, 0x20, 3, 4, 0x20, 5, 6, 0x20, 7, 8};
 
-static void check_layouts(void)
-{
-    static const uint8_t raw[] = {0x20, 1, 2, 3, 4, 5, 6, 7, 8, 0};
-    expect(RDP6_LAYOUT_BGRA == 0 && RDP6_LAYOUT_RGBA == 1 && RDP6_LAYOUT_ARGB == 2 && RDP6_LAYOUT_ABGR == 3, "the layouts are 0 to 3", 4);
-    for (uint32_t layout = 0; layout < 4; layout++) {
-        for (size_t i = 0; i < 2; i++) {
-            uint8_t work[8] = {0}, image[9];
-            memset(image, 0xEE, sizeof image);
-            int64_t answer = unpackers[i](layout, their_stream, sizeof their_stream, work, sizeof work, image, sizeof image, 2, 1);
-            expect(answer == 8 && memcmp(image, two_pixels[layout], 8) == 0 && image[8] == 0xEE, "unpacking knows the layout", layout);
-            expect(memcmp(work, "\3\4\5\6\7\10\1\2", 8) == 0, "alpha is behind the colour planes of the work area", layout);
-        }
-        for (size_t i = 0; i < 4; i++) {
-            bool stream = i < 2, alpha = i % 2 == 1;
-            uint8_t dst[11], expected[11];
-            memset(dst, 0xEE, sizeof dst);
-            memset(expected, 0xEE, sizeof expected);
-            size_t count = 0;
-            if (stream)
-                expected[count++] = raw[0];
-            for (size_t at = alpha ? 1 : 3; at < sizeof raw; at++)
-                expected[count++] = raw[at];
-            int64_t answer = packers[i](layout, two_pixels[layout], 8, dst, sizeof dst, false, 2, 1);
-            expect(answer == (int64_t)count && memcmp(dst, expected, sizeof dst) == 0, "packing knows the layout", layout);
-        }
-    }
-}
-
 static bool unchanged(const uint8_t *bytes, size_t count)
 {
     for (size_t i = 0; i < count; i++)
@@ -161,7 +133,7 @@ static int64_t refused_unpacking(size_t i, uint32_t layout, size_t stream_len, s
     memset(work, 0xEE, sizeof work);
     memset(image, 0xEE, sizeof image);
     int64_t answer = unpackers[i](layout, their_stream, stream_len, work, work_len, image, image_len, width, height);
-    expect(unchanged(work, sizeof work) && unchanged(image, sizeof image), "a refused layout changes nothing", layout);
+    expect(unchanged(work, sizeof work) && unchanged(image, sizeof image), "a refusal changes nothing", layout);
     return answer;
 }
 
@@ -173,8 +145,43 @@ static int64_t refused_packing(size_t i, uint32_t layout, size_t src_len, size_t
     int64_t rle = packers[i](layout, two_pixels[0], src_len, dst, dst_len, true, width, height);
     int64_t raw = packers[i](layout, two_pixels[0], src_len, dst, dst_len, false, width, height);
     expect(rle == raw, "RLE and raw are refused with the same number", layout);
-    expect(unchanged(dst, sizeof dst), "a refused layout changes nothing", layout);
+    expect(unchanged(dst, sizeof dst), "a refusal changes nothing", layout);
     return rle;
+}
+
+/* Each layout, by each function, RLE and raw. */
+static void check_layouts(void)
+{
+    static const uint8_t raw[] = {0x20, 1, 2, 3, 4, 5, 6, 7, 8, 0}, raw_alpha[] = {0x00, 1, 2, 3, 4, 5, 6, 7, 8, 0};
+    const size_t all = sizeof their_stream;
+    expect(RDP6_LAYOUT_BGRA == 0 && RDP6_LAYOUT_RGBA == 1 && RDP6_LAYOUT_ARGB == 2 && RDP6_LAYOUT_ABGR == 3, "the layouts are 0 to 3", 4);
+    for (uint32_t layout = 0; layout < 4; layout++) {
+        for (size_t i = 0; i < 2; i++) {
+            uint8_t work[8] = {0}, image[9];
+            memset(image, 0xEE, sizeof image);
+            int64_t answer = unpackers[i](layout, their_stream, sizeof their_stream, work, sizeof work, image, sizeof image, 2, 1);
+            expect(answer == 8 && memcmp(image, two_pixels[layout], 8) == 0 && image[8] == 0xEE, "unpacking knows the layout", layout);
+            expect(memcmp(work, "\3\4\5\6\7\10\1\2", 8) == 0, "alpha is behind the colour planes of the work area", layout);
+            expect(refused_unpacking(i, layout, all, 7, 8, 2, 1) == -RDP6_SHORT_WORK, "the work area has a place for alpha", layout);
+            expect(refused_unpacking(i, layout, all, 8, 7, 2, 1) == -RDP6_SHORT_IMAGE, "the image has four bytes a pixel", layout);
+        }
+        uint8_t image[8];
+        int64_t raw_answer = rdp6_stream_decode_pixels(layout, raw_alpha, sizeof raw_alpha, NULL, 0, image, sizeof image, 2, 1);
+        expect(raw_answer == 8 && memcmp(image, two_pixels[layout], 8) == 0, "unpacking raw pixels knows the layout", layout);
+        for (size_t i = 0; i < 4; i++) {
+            bool stream = i < 2, alpha = i % 2 == 1;
+            uint8_t dst[11], expected[11];
+            memset(dst, 0xEE, sizeof dst);
+            memset(expected, 0xEE, sizeof expected);
+            size_t count = 0;
+            if (stream)
+                expected[count++] = raw[0];
+            for (size_t at = alpha ? 1 : 3; at < sizeof raw; at++)
+                expected[count++] = raw[at];
+            int64_t answer = packers[i](layout, two_pixels[layout], 8, dst, sizeof dst, false, 2, 1);
+            expect(answer == (int64_t)count && memcmp(dst, expected, sizeof dst) == 0, "packing knows the layout", layout);
+        }
+    }
 }
 
 /* 3 comes behind 13, 14, 1 and 2 and before 4, 5, 6, 11 and 12, whatever the last byte of the number is. */
