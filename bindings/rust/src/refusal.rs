@@ -25,11 +25,7 @@ pub enum Refusal {
     ZeroSize = 1,
     /// The width or the height is over 8,192.
     TooLarge = 2,
-    /// The loss level of AYCoCg is not 1 to 7. In C also an unknown plane definition or layout, which no [`ColorPlaneDefinition`] and no
-    /// [`PixelAlpha`] is.
-    ///
-    /// [`ColorPlaneDefinition`]: crate::ColorPlaneDefinition
-    /// [`PixelAlpha`]: crate::PixelAlpha
+    /// The loss level of AYCoCg is not 1 to 7. In C also an unknown plane definition or an unknown layout; the types of this crate have none.
     LossLevel = 3,
     /// The body of a picture is shorter than its minimum size.
     InvalidUncompressedDataSize = 4,
