@@ -1,1 +1,2 @@
 pub mod HeaderWritten
+pub mod Split

@@ -10,11 +10,13 @@ ghost use Rattle.rle_format.specs.Answer.{packedToAnswer};
 ghost use Rattle.rle_format.specs.Sides.{checkSides};
 ghost use Rattle.pixel_format.specs.Channel.{channelOffsets};
 ghost use Rattle.bitmap_format.specs.declared.BitmapStreamHeader.{BitmapStreamHeader};
+ghost use Rattle.bitmap_format.specs.Pixels.{formatToForm};
 ghost use Rattle.bitmap_format.specs.Picture.{decodedToAnswer};
 ghost use Rattle.bitmap_format.specs.PackPicture.{threePlanes, fourPlanes, pixelPlanes, pixelPlanesAlpha, encodedToAnswer, dropHeader};
-ghost use Rattle.bitmap_format.specs.Stream.{unpackStream, streamWorkSize, packPictureStream};
+ghost use Rattle.bitmap_format.specs.Stream.{splitStream, unpackStreamTo, unpackStream, unpackPixelStream, streamWorkSize, packPictureStream};
+ghost use Rattle.bitmap_stream.specs.Split.{splitOf};
 ghost use Rattle.bitmap_stream.specs.HeaderWritten.{headerWritten};
-use bitmap_decoder::decode;
+use bitmap_decoder::decode_to;
 use bitmap_encoder::encode_bitmap_body;
 use bitmap_encoder::encode_bitmap_body_alpha;
 use bitmap_encoder::encode_channels_body;
@@ -25,22 +27,74 @@ use bitmap_format::Encoded;
 use bitmap_format::work_size;
 use header::header_from_byte;
 use header::header_to_byte;
+use pixel_format::PixelFormat;
 use pixel_format::PixelLayout;
 use rle_format::Packed;
 use rle_format::Refusal;
 
+// A stream, split: the header record, and the index where the body ends, which begins at index 1; or the refusal.
+pub enum Split {
+    Body {
+        header: BitmapStreamHeader,
+        end: usize,
+    },
+    Refused(Refusal),
+}
+
+// Splits a stream into its header record and its body (FORMAT 1.7). Refusals 13 and 14. Callers need the second clause for their indices.
+pub fn split_stream(stream: &[u8]) -> Split
+    ensures split { λ r. ⌜ splitOf (now (stream .entry)) r ≡ splitStream (now (stream .entry)) ⌝ }
+    ensures within { λ r. ⌜ ((h : BitmapStreamHeader) (e : ℕ) → r ≡ Split.Body h e → (1 ≤ e) × (e ≤ length (now (stream .entry)))) ⌝ }
+{
+    let end = stream.len();
+    if end == 0 {
+        return Split::Refused(Refusal::EmptyStream);
+    }
+    let header = header_from_byte(stream[0]);
+    if header.enable_rle_compression {
+        return Split::Body { header, end };
+    }
+    if end == 1 {
+        return Split::Refused(Refusal::MissingPad);
+    }
+    let pad = end - 1;
+    Split::Body { header, end: pad }
+}
+
 // The minimum size of the work area of a stream, from its header byte; 0 if the stream is empty, or if the sides are refused.
-pub fn stream_work_size(stream: &[u8], width: usize, height: usize) -> usize
-    ensures { λ r. ⌜ r ≡ checkSides (λ (_ : ℕ). 0) width height (streamWorkSize width height (now (stream .entry))) ⌝ }
+pub fn stream_work_size(format: PixelFormat, stream: &[u8], width: usize, height: usize) -> usize
+    ensures { λ r. ⌜ r ≡ checkSides (λ (_ : ℕ). 0) width height (streamWorkSize (formatToForm format) width height (now (stream .entry))) ⌝ }
 {
     if stream.len() == 0 {
         return 0;
     }
-    work_size(header_from_byte(stream[0]), width, height)
+    work_size(format, header_from_byte(stream[0]), width, height)
 }
 
-// Unpacks a picture from its stream, as `decode` does from its header record and body. Refusals 13 and 14, which change nothing, then those of
-// `decode` but 3.
+// Unpacks a picture from its stream, as `decode_to` does from its header record and body. Refusals 13 and 14, which change nothing, then those of
+// `decode_to` but 3.
+fn decode_stream_to(
+    format: PixelFormat,
+    stream: &[u8],
+    work: &mut [u8],
+    image: &mut [u8],
+    width: usize,
+    height: usize,
+) -> Decoded
+    ensures answer { λ r. ⌜ decodedToAnswer r ≡ unpackStreamTo (formatToForm format) width height (now (stream .entry)) (now (work .entry)) (now (image .entry)) .answer ⌝ }
+    ensures work { λ _. ⌜ now (work .exit) ≡ unpackStreamTo (formatToForm format) width height (now (stream .entry)) (now (work .entry)) (now (image .entry)) .work ⌝ }
+    ensures image { λ _. ⌜ now (image .exit) ≡ unpackStreamTo (formatToForm format) width height (now (stream .entry)) (now (work .entry)) (now (image .entry)) .image ⌝ }
+{
+    let split = split_stream(stream);
+    match split {
+        Split::Refused(reason) => Decoded::Refused(reason),
+        Split::Body { header, end } => {
+            decode_to(format, header, &stream[1..end], work, image, width, height)
+        }
+    }
+}
+
+// To three-byte pixels, R, G and B.
 pub fn decode_bitmap_stream_to_rgb24(
     stream: &[u8],
     work: &mut [u8],
@@ -52,19 +106,25 @@ pub fn decode_bitmap_stream_to_rgb24(
     ensures work { λ _. ⌜ now (work .exit) ≡ unpackStream width height (now (stream .entry)) (now (work .entry)) (now (image .entry)) .work ⌝ }
     ensures image { λ _. ⌜ now (image .exit) ≡ unpackStream width height (now (stream .entry)) (now (work .entry)) (now (image .entry)) .image ⌝ }
 {
-    let end = stream.len();
-    if end == 0 {
-        return Decoded::Refused(Refusal::EmptyStream);
-    }
-    let header = header_from_byte(stream[0]);
-    if header.enable_rle_compression {
-        return decode(header, &stream[1..], work, image, width, height);
-    }
-    if end == 1 {
-        return Decoded::Refused(Refusal::MissingPad);
-    }
-    let pad = end - 1;
-    decode(header, &stream[1..pad], work, image, width, height)
+    let format = PixelFormat::Rgb24;
+    decode_stream_to(format, stream, work, image, width, height)
+}
+
+// To four-byte pixels in a layout.
+pub fn decode_bitmap_stream_to_pixels(
+    layout: PixelLayout,
+    stream: &[u8],
+    work: &mut [u8],
+    image: &mut [u8],
+    width: usize,
+    height: usize,
+) -> Decoded
+    ensures answer { λ r. ⌜ decodedToAnswer r ≡ unpackPixelStream (channelOffsets layout) width height (now (stream .entry)) (now (work .entry)) (now (image .entry)) .answer ⌝ }
+    ensures work { λ _. ⌜ now (work .exit) ≡ unpackPixelStream (channelOffsets layout) width height (now (stream .entry)) (now (work .entry)) (now (image .entry)) .work ⌝ }
+    ensures image { λ _. ⌜ now (image .exit) ≡ unpackPixelStream (channelOffsets layout) width height (now (stream .entry)) (now (work .entry)) (now (image .entry)) .image ⌝ }
+{
+    let format = PixelFormat::FourBytes(layout);
+    decode_stream_to(format, stream, work, image, width, height)
 }
 
 // The answer of packing a body, without the header record.
