@@ -47,7 +47,7 @@ static size_t pack_picture(void)
             pixels[4 * i + channel] = picture.rgb[3 * i + 2 - channel];
         pixels[4 * i + 3] = 255;
     }
-    int64_t answer = rdp6_stream_encode_bitmap(pixels, 4 * area, packed, 6 * area + 1, true, width, height);
+    int64_t answer = rdp6_stream_encode_bitmap(RDP6_LAYOUT_BGRA, pixels, 4 * area, packed, 6 * area + 1, true, width, height);
     if (answer < 0)
         fail("DIFFERENT: packing the picture gave refusal %" PRId64 ": %s", -answer, rdp6_refusal_text(-answer));
     printf("Packed as an RLE stream: %" PRId64 " bytes, %.1f %% of that\n", answer, 100.0 * (double)answer / (3.0 * (double)area));

@@ -90,9 +90,11 @@ int main(int argc, char **argv)
 {
     draw();
     printf("%d x %d pixels, %zu bytes\n", WIDTH, HEIGHT, sizeof pixels);
-    size_t length = counted(rdp6_stream_encode_bitmap(pixels, sizeof pixels, stream, sizeof stream, true, WIDTH, HEIGHT));
+    size_t length =
+        counted(rdp6_stream_encode_bitmap(RDP6_LAYOUT_BGRA, pixels, sizeof pixels, stream, sizeof stream, true, WIDTH, HEIGHT));
     unpack("R, G, B in RLE", length);
-    length = counted(rdp6_stream_encode_bitmap_alpha(pixels, sizeof pixels, stream, sizeof stream, false, WIDTH, HEIGHT));
+    length =
+        counted(rdp6_stream_encode_bitmap_alpha(RDP6_LAYOUT_BGRA, pixels, sizeof pixels, stream, sizeof stream, false, WIDTH, HEIGHT));
     stream[0] &= 0xDF; /* clears bit 5, which the packer sets for four planes too: there is an alpha plane */
     unpack("A, R, G, B raw", length);
     const char *path = argc > 1 ? argv[1] : "target/examples/round_trip.ppm";

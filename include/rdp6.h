@@ -14,10 +14,14 @@
  * changes only what the function's comment says. rdp6_refusal_text has a text for each.
  *
  * Arguments. A bool must be 0 or 1. C and C++ convert to that by themselves; a caller in another language must do so too. Every other
- * number may have any value.
+ * number may have any value. None is cut to a byte: layout 256 is refused, and is not layout 0.
  *
  * Streams and bodies. A stream is a header byte and a body (FORMAT 1). The functions rdp6_stream_NAME read and write streams; most callers
  * need no others. rdp6_NAME does the same for a body, for a caller with a parser of its own for the header byte.
+ *
+ * Three bytes or four. rdp6_stream_decode and rdp6_decode write R, G and B of each pixel. rdp6_stream_decode_pixels and rdp6_decode_pixels
+ * write R, G, B and A, in a layout that the caller chooses. They need a larger image and, for an RLE picture with alpha, a larger work
+ * area.
  *
  * Header byte. The first byte of a stream:
  *
@@ -59,14 +63,17 @@ extern "C" {
 /* The largest width and the largest height. */
 #define RDP6_MAX_SIDE 8192
 
-/* The refusals (FORMAT 8). A function returns one of these negated; its comment says which, and in which order they are checked. */
+/*
+ * The refusals (FORMAT 8). A function returns one of these negated; its comment says which, and in which order they are checked. Refusal 3
+ * for an unknown layout is the C interface's own refusal, not one of the format; the comments mark it "C's own".
+ */
 enum rdp6_refusal {
     RDP6_ZERO_SIZE = 1,                        /* the width or the height is 0 */
     RDP6_TOO_LARGE = 2,                        /* the width or the height is over 8192 */
-    RDP6_LOSS_LEVEL = 3,                       /* the loss level of AYCoCg is not 1 to 7, or the plane definition is unknown */
+    RDP6_LOSS_LEVEL = 3,                       /* the loss level of AYCoCg is not 1 to 7, or the plane definition or the layout is unknown */
     RDP6_INVALID_UNCOMPRESSED_DATA_SIZE = 4,   /* the body is shorter than its minimum size */
-    RDP6_SHORT_WORK = 5,                       /* the work area is shorter than the three colour planes */
-    RDP6_SHORT_IMAGE = 6,                      /* the image is shorter than 3 * width * height bytes */
+    RDP6_SHORT_WORK = 5,                       /* the work area is shorter than its minimum size */
+    RDP6_SHORT_IMAGE = 6,                      /* the image is shorter than its minimum size */
     RDP6_READ_COMPRESSED_DATA = 7,             /* a control byte or a raw byte is missing */
     RDP6_INVALID_SEGMENT_HEADER = 8,           /* a control byte is 0 */
     RDP6_SEGMENT_DO_NOT_FIT_SCANLINE = 9,      /* a segment overruns its row */
@@ -89,13 +96,13 @@ static inline const char *rdp6_refusal_text(int64_t number)
     case RDP6_TOO_LARGE:
         return "the width or the height is over 8192";
     case RDP6_LOSS_LEVEL:
-        return "the loss level of AYCoCg is not 1 to 7, or the plane definition is unknown";
+        return "the loss level of AYCoCg is not 1 to 7, or the plane definition or the layout is unknown";
     case RDP6_INVALID_UNCOMPRESSED_DATA_SIZE:
         return "the body is shorter than its minimum size";
     case RDP6_SHORT_WORK:
-        return "the work area is shorter than the three colour planes";
+        return "the work area is shorter than its minimum size";
     case RDP6_SHORT_IMAGE:
-        return "the image is shorter than 3 * width * height bytes";
+        return "the image is shorter than its minimum size";
     case RDP6_READ_COMPRESSED_DATA:
         return "a control byte or a raw byte is missing";
     case RDP6_INVALID_SEGMENT_HEADER:
@@ -116,6 +123,17 @@ static inline const char *rdp6_refusal_text(int64_t number)
         return "no refusal has this number";
     }
 }
+
+/*
+ * The layouts: the order of the four bytes of a pixel, which is that of the letters. Any other number, 256 and 257 too, is refusal 3, the C
+ * interface's own. It is checked behind 13, 14, 1 and 2 and before every other, and changes nothing.
+ */
+enum rdp6_layout {
+    RDP6_LAYOUT_BGRA = 0, /* B, G, R, A */
+    RDP6_LAYOUT_RGBA = 1, /* R, G, B, A */
+    RDP6_LAYOUT_ARGB = 2, /* A, R, G, B */
+    RDP6_LAYOUT_ABGR = 3  /* A, B, G, R */
+};
 
 /* Streams. */
 
@@ -158,6 +176,44 @@ size_t rdp6_stream_work_size(const uint8_t *stream, size_t stream_len, size_t wi
 size_t rdp6_image_size(size_t width, size_t height);
 
 /*
+ * Unpacks a picture from its stream as rdp6_stream_decode does, but into four bytes a pixel: the first 4 * width * height bytes of image, row
+ * by row, in the layout. Returns that number. R, G and B of each pixel are those that rdp6_stream_decode writes. A is the sample of the alpha
+ * plane, or 255 if there is no alpha plane. The comment of rdp6_decode_pixels says where alpha is in work.
+ *
+ * The minimum lengths are
+ *
+ *   stream_len  as for rdp6_stream_decode
+ *   work_len    what rdp6_stream_pixels_work_size returns. A raw picture does not use work, which may be NULL with length 0
+ *   image_len   4 * width * height, which rdp6_pixels_image_size computes
+ *
+ * Refusals, checked in this order. None of them changes image:
+ *   13  stream_len is 0                                      }
+ *   14  the stream is raw and stream_len is 1: no pad byte   }
+ *    1  width or height is 0                                 }
+ *    2  width or height is over 8192                         }
+ *    3  layout is over 3 (C's own)                           }  work is unchanged too
+ *    4  the body is shorter than its minimum size            }
+ *    5  work_len is below its minimum (RLE only)             }
+ *    6  image_len is below its minimum                       }
+ *    7  a control byte or a raw byte is missing   }  RLE only. In work the planes before are complete, alpha too; the refused plane is as
+ *    8  a control byte is 0                       }  rdp6_decompress_8bpp_plane leaves it; the rest is unchanged
+ *    9  a segment overruns its row                }
+ * Refusal 3 never occurs with a layout of enum rdp6_layout. Where both functions have room, refusals 1, 2, 4, 7, 8, 9, 13 and 14 are those of
+ * rdp6_stream_decode.
+ */
+int64_t rdp6_stream_decode_pixels(uint32_t layout, const uint8_t *stream, size_t stream_len, uint8_t *work, size_t work_len, uint8_t *image,
+                                  size_t image_len, size_t width, size_t height);
+
+/*
+ * The minimum work_len for rdp6_stream_decode_pixels: the size of the picture's planes, alpha included, or 0 if it is raw. Only the header
+ * byte is read, so the first byte of a stream is enough. Returns 0 for an empty stream and for sides that are refused.
+ */
+size_t rdp6_stream_pixels_work_size(const uint8_t *stream, size_t stream_len, size_t width, size_t height);
+
+/* The minimum image_len for rdp6_stream_decode_pixels and rdp6_decode_pixels, 4 * width * height. Returns 0 for sides that are refused. */
+size_t rdp6_pixels_image_size(size_t width, size_t height);
+
+/*
  * Packs a picture (FORMAT 7; MS-RDPEGDI 2.2.2.5.1) from its R, G and B into a stream, the first bytes of dst, and returns the number of bytes
  * written, with the header byte. Behind the header byte is the body that rdp6_encode_channels writes.
  *
@@ -185,14 +241,22 @@ int64_t rdp6_stream_encode_channels_alpha(const uint8_t *r, size_t r_len, const 
                                           size_t height);
 
 /*
- * The same as rdp6_stream_encode_channels, from pixels: src has four bytes a pixel, B, G, R, A, row by row. A is not packed. What follows
- * the first width * height pixels is not read. Refusal 11 if src_len / 4 is below width * height.
+ * The same as rdp6_stream_encode_channels, from pixels: src has four bytes a pixel, in the layout, row by row. A is not packed. What follows
+ * the first width * height pixels is not read.
+ *
+ * Refusals, checked in this order. None of them changes dst[0]:
+ *    1  width or height is 0                    }
+ *    2  width or height is over 8192            }  dst is unchanged
+ *    3  layout is over 3 (C's own)              }
+ *   11  src_len / 4 is below width * height     }
+ *   12  as rdp6_stream_encode_channels has it
  */
-int64_t rdp6_stream_encode_bitmap(const uint8_t *src, size_t src_len, uint8_t *dst, size_t dst_len, bool rle, size_t width, size_t height);
+int64_t rdp6_stream_encode_bitmap(uint32_t layout, const uint8_t *src, size_t src_len, uint8_t *dst, size_t dst_len, bool rle, size_t width,
+                                  size_t height);
 
-/* The same as rdp6_stream_encode_channels_alpha, from such pixels. */
-int64_t rdp6_stream_encode_bitmap_alpha(const uint8_t *src, size_t src_len, uint8_t *dst, size_t dst_len, bool rle, size_t width,
-                                        size_t height);
+/* The same with alpha: the stream is that of rdp6_stream_encode_channels_alpha. */
+int64_t rdp6_stream_encode_bitmap_alpha(uint32_t layout, const uint8_t *src, size_t src_len, uint8_t *dst, size_t dst_len, bool rle,
+                                        size_t width, size_t height);
 
 /* Bodies. */
 
@@ -241,10 +305,48 @@ int64_t rdp6_decode(bool rle, bool alpha, uint32_t definition, uint32_t color_lo
                     size_t body_len, uint8_t *work, size_t work_len, uint8_t *image, size_t image_len, size_t width, size_t height);
 
 /*
- * The minimum work_len of a picture: the size of its three colour planes, or 0 if it is raw. Returns 0 for sides that are refused. A
- * definition that rdp6_decode refuses has the size of AYCoCg.
+ * The minimum work_len for rdp6_decode: the size of the picture's three colour planes, or 0 if it is raw. Returns 0 for sides that are
+ * refused. A definition that rdp6_decode refuses has the size of AYCoCg.
  */
 size_t rdp6_work_size(bool rle, uint32_t definition, bool chroma_subsampling, size_t width, size_t height);
+
+/*
+ * Unpacks a picture from its body as rdp6_decode does, but into four bytes a pixel: the first 4 * width * height bytes of image, row by row,
+ * in the layout, which follows what the header byte says. Returns that number. R, G and B of each pixel are those that rdp6_decode writes. A
+ * is the sample of the alpha plane, or 255 if alpha is false.
+ *
+ * With full = width * height, and chroma as for rdp6_decode, the minimum lengths are
+ *
+ *   body_len    as for rdp6_decode
+ *   work_len    RLE: full + 2 * chroma, and full more with alpha, which rdp6_pixels_work_size computes; raw: 0
+ *   image_len   4 * full, which rdp6_pixels_image_size computes
+ *
+ * An RLE picture is unpacked into work, which then has its three colour planes one after the other and behind them, from offset full + 2 *
+ * chroma on, the alpha plane, if there is one. Alpha is the first plane of the body and is unpacked first; no colour plane overwrites it. A
+ * raw picture does not use work, which may be NULL with length 0.
+ *
+ * Refusals, checked in this order. None of them changes image:
+ *    1  width or height is 0                                          }
+ *    2  width or height is over 8192                                  }
+ *    3  layout is over 3 (C's own)                                    }
+ *    3  AYCoCg with a level other than 1 to 7; another definition     }  work is unchanged too
+ *    4  body_len is below its minimum                                 }
+ *    5  work_len is below its minimum (RLE only)                      }
+ *    6  image_len is below its minimum                                }
+ *    7  a control byte or a raw byte is missing   }  RLE only. In work the planes before are complete, alpha too; the refused plane is as
+ *    8  a control byte is 0                       }  rdp6_decompress_8bpp_plane leaves it; the rest is unchanged. So a refused alpha
+ *    9  a segment overruns its row                }  plane leaves the colour planes' part unchanged
+ * Where both functions have room, and the layout is one of enum rdp6_layout, refusals 1 to 4 and 7 to 9 are those of rdp6_decode.
+ */
+int64_t rdp6_decode_pixels(bool rle, bool alpha, uint32_t definition, uint32_t color_loss_level, bool chroma_subsampling, uint32_t layout,
+                           const uint8_t *body, size_t body_len, uint8_t *work, size_t work_len, uint8_t *image, size_t image_len,
+                           size_t width, size_t height);
+
+/*
+ * The minimum work_len for rdp6_decode_pixels: the size of the picture's planes, alpha included, or 0 if it is raw. Returns 0 for sides that
+ * are refused. A definition that rdp6_decode_pixels refuses has the size of AYCoCg.
+ */
+size_t rdp6_pixels_work_size(bool rle, bool alpha, uint32_t definition, bool chroma_subsampling, size_t width, size_t height);
 
 /*
  * Packs a picture (FORMAT 7; MS-RDPEGDI 2.2.2.5.1) from its R, G and B into the first bytes of dst, and returns the number of bytes
@@ -277,13 +379,22 @@ int64_t rdp6_encode_channels_alpha(const uint8_t *r, size_t r_len, const uint8_t
                                    const uint8_t *a, size_t a_len, uint8_t *dst, size_t dst_len, bool rle, size_t width, size_t height);
 
 /*
- * The same as rdp6_encode_channels, from pixels: src has four bytes a pixel, B, G, R, A, row by row. A is not packed. What follows the
- * first width * height pixels is not read. Refusal 11 if src_len / 4 is below width * height.
+ * The same as rdp6_encode_channels, from pixels: src has four bytes a pixel, in the layout, row by row. A is not packed. What follows the
+ * first width * height pixels is not read.
+ *
+ * Refusals, checked in this order:
+ *    1  width or height is 0                    }
+ *    2  width or height is over 8192            }  dst is unchanged
+ *    3  layout is over 3 (C's own)              }
+ *   11  src_len / 4 is below width * height     }
+ *   12  as rdp6_encode_channels has it
  */
-int64_t rdp6_encode_bitmap(const uint8_t *src, size_t src_len, uint8_t *dst, size_t dst_len, bool rle, size_t width, size_t height);
+int64_t rdp6_encode_bitmap(uint32_t layout, const uint8_t *src, size_t src_len, uint8_t *dst, size_t dst_len, bool rle, size_t width,
+                           size_t height);
 
-/* The same as rdp6_encode_channels_alpha, from such pixels. */
-int64_t rdp6_encode_bitmap_alpha(const uint8_t *src, size_t src_len, uint8_t *dst, size_t dst_len, bool rle, size_t width, size_t height);
+/* The same with alpha: the body is that of rdp6_encode_channels_alpha. */
+int64_t rdp6_encode_bitmap_alpha(uint32_t layout, const uint8_t *src, size_t src_len, uint8_t *dst, size_t dst_len, bool rle, size_t width,
+                                 size_t height);
 
 /* Planes. */
 

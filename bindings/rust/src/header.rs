@@ -14,8 +14,8 @@ pub enum ColorPlaneDefinition {
     },
 }
 
-/// What the header byte of a picture says. Only the body forms take or return it: [`decode`](crate::decode) and the methods with `body` in
-/// their names. The stream forms read and write the byte itself (MS-RDPEGDI 2.2.2.5.1):
+/// What the header byte of a picture says. Only the body forms take or return it: [`decode`](crate::decode),
+/// [`decode_pixels`](crate::decode_pixels) and the methods with `body` in their names. The stream forms read and write the byte itself (MS-RDPEGDI 2.2.2.5.1):
 ///
 /// | Bits | Meaning |
 /// |---|---|

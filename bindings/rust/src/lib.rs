@@ -37,13 +37,37 @@
 //! | | allocates | |
 //! |---|---|---|
 //! | [`stream_decode`], [`stream_work_size`], [`image_size`] | no | unpacks a picture's stream to R, G, B |
-//! | [`BitmapStreamDecoder`] | yes | the same, with a work area of its own, appended to a `Vec`; also from a body |
+//! | [`stream_decode_pixels`], [`stream_pixels_work_size`], [`pixels_image_size`] | no | the same to pixels of four bytes, with alpha |
+//! | [`BitmapStreamDecoder`] | yes | both, with a work area of its own, appended to a `Vec`; also from a body |
 //! | [`BitmapStreamEncoder`] | no | packs channels or pixels to a picture's stream, or to its body |
-//! | [`decode`], [`work_size`] | no | unpacks a picture's body |
+//! | [`decode`], [`work_size`]; [`decode_pixels`], [`pixels_work_size`] | no | unpacks a picture's body, to R, G, B or to pixels |
 //! | [`decompress_8bpp_plane`], [`compress_8bpp_plane`] | no | unpacks and packs an RLE plane |
 //!
 //! The modules [`rle`], [`bitmap_stream::decoder`] and [`bitmap_stream::encoder`] have the names of IronRDP's, so that a service that used it
 //! changes the root of its `use` lines. README.md, "Moving from IronRDP", lists what else changes.
+//!
+//! # Layouts
+//!
+//! Pixels have four bytes. The layout is a type parameter, with IronRDP's names: [`BgrAChannels`], [`RgbAChannels`], [`ARgbChannels`] or
+//! [`ABgrChannels`]. Each packs and unpacks:
+//!
+//! ```
+//! use rdp6::{ARgbChannels, BgrAChannels, BitmapStreamDecoder, BitmapStreamEncoder};
+//!
+//! # fn main() -> Result<(), rdp6::Refusal> {
+//! let pixels = [128, 230, 110, 30, 255, 230, 110, 30]; // A, R, G, B
+//! let mut stream = [0; 8 * 2 + 1];
+//! let count = BitmapStreamEncoder::new(2, 1).encode_bitmap_alpha::<ARgbChannels>(&pixels, &mut stream, true)?;
+//! stream[0] &= !0x20; // there is an alpha plane (below)
+//!
+//! let mut image = Vec::new();
+//! BitmapStreamDecoder::default().decode_bitmap_stream_to_pixels::<BgrAChannels>(&stream[..count], &mut image, 2, 1)?;
+//! assert_eq!(image, [30, 110, 230, 128, 30, 110, 230, 255]); // B, G, R, A
+//! # Ok(())
+//! # }
+//! ```
+//!
+//! A picture without an alpha plane is unpacked with A 255.
 //!
 //! # Header byte
 //!
@@ -83,11 +107,13 @@ pub mod rle;
 
 #[doc(inline)]
 pub use bitmap_stream::decoder::{
-    decode, image_size, stream_decode, stream_work_size, work_size, BitmapDecodeError, BitmapStreamDecoder,
+    decode, decode_pixels, image_size, pixels_image_size, pixels_work_size, stream_decode, stream_decode_pixels,
+    stream_pixels_work_size, stream_work_size, work_size, BitmapDecodeError, BitmapStreamDecoder,
 };
 #[doc(inline)]
 pub use bitmap_stream::encoder::{
-    AlphaChannel, BgrAChannels, BitmapEncodeError, BitmapStreamEncoder, ColorChannels, Encoded, PixelAlpha, PixelFormat,
+    ABgrChannels, ARgbChannels, AlphaChannel, BgrAChannels, BitmapEncodeError, BitmapStreamEncoder, ColorChannels,
+    Encoded, PixelAlpha, PixelFormat, RgbAChannels,
 };
 #[doc(inline)]
 pub use header::{BitmapStreamHeader, ColorPlaneDefinition};

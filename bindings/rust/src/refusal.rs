@@ -25,15 +25,13 @@ pub enum Refusal {
     ZeroSize = 1,
     /// The width or the height is over 8,192.
     TooLarge = 2,
-    /// The loss level of AYCoCg is not 1 to 7. In C also an unknown plane definition, which no [`ColorPlaneDefinition`] is.
-    ///
-    /// [`ColorPlaneDefinition`]: crate::ColorPlaneDefinition
+    /// The loss level of AYCoCg is not 1 to 7. In C also an unknown plane definition or an unknown layout; the types of this crate have none.
     LossLevel = 3,
     /// The body of a picture is shorter than its minimum size.
     InvalidUncompressedDataSize = 4,
-    /// The work area is shorter than the three colour planes.
+    /// The work area is shorter than its minimum size: the three colour planes and, if alpha is unpacked with them, the alpha plane.
     ShortWork = 5,
-    /// The image is shorter than 3 × width × height bytes.
+    /// The image is shorter than its minimum size: 3 × width × height bytes, or 4 × width × height with alpha.
     ShortImage = 6,
     /// A control byte or a raw byte is missing.
     ReadCompressedData = 7,
@@ -81,10 +79,12 @@ impl Refusal {
         match self {
             Refusal::ZeroSize => "the width or the height is 0",
             Refusal::TooLarge => "the width or the height is over 8192",
-            Refusal::LossLevel => "the loss level of AYCoCg is not 1 to 7, or the plane definition is unknown",
+            Refusal::LossLevel => {
+                "the loss level of AYCoCg is not 1 to 7, or the plane definition or the layout is unknown"
+            }
             Refusal::InvalidUncompressedDataSize => "the body is shorter than its minimum size",
-            Refusal::ShortWork => "the work area is shorter than the three colour planes",
-            Refusal::ShortImage => "the image is shorter than 3 * width * height bytes",
+            Refusal::ShortWork => "the work area is shorter than its minimum size",
+            Refusal::ShortImage => "the image is shorter than its minimum size",
             Refusal::ReadCompressedData => "a control byte or a raw byte is missing",
             Refusal::InvalidSegmentHeader => "a control byte is 0",
             Refusal::SegmentDoNotFitScanline => "a segment overruns its row",

@@ -1,9 +1,10 @@
 //! `BitmapStreamDecoder`: what it appends, what it does not change, what it allocates. The expected results are written from docs/FORMAT.md.
 
+#[macro_use]
 mod support;
 
-use rdp6::{BitmapStreamDecoder, BitmapStreamHeader, Refusal};
-use support::{argb, aycocg, first, hex, split, Noise, REFUSED_SIDES};
+use rdp6::{BgrAChannels, BitmapStreamDecoder, BitmapStreamHeader, Refusal, RgbAChannels};
+use support::{argb, aycocg, first, hex, split, Layout, Noise, LAYOUTS, REFUSED_SIDES};
 
 /// Unpacks a picture from its stream and appends it to two bytes. From its header record and its body, if it has them, the same is unpacked.
 fn unpack_stream(
@@ -15,6 +16,22 @@ fn unpack_stream(
     let answer = decoder.decode_bitmap_stream_to_rgb24(&stream, &mut dst, sides.0, sides.1);
     let answer_of_body = split(&stream)
         .and_then(|(header, body)| decoder.decode_body_to_rgb24(header, body, &mut dst_of_body, sides.0, sides.1));
+    assert_eq!((answer, &dst), (answer_of_body, &dst_of_body), "{stream:02X?}");
+    (answer, dst)
+}
+
+/// Unpacks a picture to pixels and appends them to two bytes, from its stream, and with the same result from its header record and its body.
+fn unpack_pixels(
+    decoder: &mut BitmapStreamDecoder,
+    layout: Layout,
+    stream: &str,
+    (width, height): (usize, usize),
+) -> (Result<(), Refusal>, Vec<u8>) {
+    let (stream, mut dst, mut dst_of_body) = (hex(stream), hex("AA BB"), hex("AA BB"));
+    let answer = with_layout!(layout, F, decoder.decode_bitmap_stream_to_pixels::<F>(&stream, &mut dst, width, height));
+    let answer_of_body = split(&stream).and_then(|(header, body)| {
+        with_layout!(layout, F, decoder.decode_body_to_pixels::<F>(header, body, &mut dst_of_body, width, height))
+    });
     assert_eq!((answer, &dst), (answer_of_body, &dst_of_body), "{stream:02X?}");
     (answer, dst)
 }
@@ -41,6 +58,96 @@ fn images_are_appended() {
     decoder.decode_bitmap_stream_to_rgb24(&hex("20 07 08 09 00"), &mut dst, 1, 1).unwrap();
     decoder.decode_bitmap_stream_to_rgb24(&hex("30 10 0A 10 0B 10 0C"), &mut dst, 1, 1).unwrap();
     assert_eq!(dst, hex("AA 01 02 03 04 05 06 07 08 09 0A 0B 0C"));
+}
+
+/// Three bytes and four, in turn, with one decoder.
+#[test]
+fn pixels_are_appended() {
+    let mut decoder = BitmapStreamDecoder::default();
+    let mut dst = hex("AA");
+    decoder.decode_bitmap_stream_to_pixels::<BgrAChannels>(&hex("00 04 01 02 03 00"), &mut dst, 1, 1).unwrap();
+    decoder.decode_bitmap_stream_to_rgb24(&hex("10 10 08 10 05 10 06 10 07"), &mut dst, 1, 1).unwrap();
+    decoder.decode_bitmap_stream_to_pixels::<RgbAChannels>(&hex("10 10 08 10 05 10 06 10 07"), &mut dst, 1, 1).unwrap();
+    decoder
+        .decode_body_to_pixels::<RgbAChannels>(argb(true, false), &hex("10 09 10 0A 10 0B"), &mut dst, 1, 1)
+        .unwrap();
+    assert_eq!(dst, hex("AA 03 02 01 04 05 06 07 05 06 07 08 09 0A 0B FF"));
+}
+
+/// The colours of `colours`, with alpha, in every layout.
+#[test]
+fn colours_of_pixels() {
+    let mut decoder = BitmapStreamDecoder::default();
+    for (stream, sides, rgba) in [
+        ("01 80 64 0A 14 00", (1, 1), "5A 78 46 80"),
+        ("19 10 00 10 64 10 0A 10 14", (1, 1), "5A 78 46 00"),
+        ("31 10 64 10 0A 10 14", (1, 1), "46 78 5A FF"),
+        ("02 01 64 40 00 00", (1, 1), "00 64 E4 01"),
+        ("09 01 02 03 04 64*4 01 00 00", (2, 2), "65 64 63 01 65 64 63 02 65 64 63 03 65 64 63 04"),
+    ] {
+        for layout in LAYOUTS {
+            let pixels = [hex("AA BB"), layout.pixels(&hex(rgba))].concat();
+            assert_eq!(unpack_pixels(&mut decoder, layout, stream, sides), (Ok(()), pixels), "{layout:?}, {stream}");
+        }
+    }
+}
+
+/// The same refusals as for three bytes a pixel; the destination is unchanged.
+#[test]
+fn refused_pixels() {
+    let mut decoder = BitmapStreamDecoder::default();
+    let refused = |refusal| (Err(refusal), hex("AA BB"));
+    for layout in LAYOUTS {
+        for (stream, refusal) in [
+            ("-", Refusal::EmptyStream),
+            ("00", Refusal::MissingPad),
+            ("00 00", Refusal::InvalidUncompressedDataSize),
+            ("10", Refusal::InvalidUncompressedDataSize),
+            ("00 04 01 02 03", Refusal::InvalidUncompressedDataSize),
+            ("10 10 80 00 00", Refusal::InvalidSegmentHeader),
+            ("10 20 80 80 00", Refusal::SegmentDoNotFitScanline),
+            ("10 10 80 10 64 10 0A 10", Refusal::ReadCompressedData),
+        ] {
+            assert_eq!(unpack_pixels(&mut decoder, layout, stream, (1, 1)), refused(refusal), "{layout:?}, {stream}");
+        }
+        for (width, height, refusal) in REFUSED_SIDES {
+            for stream in ["10", "00 00", "00 04 01 02 03 00", "10 10 04 10 01 10 02 10 03"] {
+                let unpacked = unpack_pixels(&mut decoder, layout, stream, (width, height));
+                assert_eq!(unpacked, refused(refusal), "{layout:?}, {stream}");
+            }
+        }
+        let (header, body, mut dst) = (aycocg(true, true, 8, false), hex("10 80 10 64 10 0A 10 14"), hex("AA BB"));
+        let answer = with_layout!(layout, F, decoder.decode_body_to_pixels::<F>(header, &body, &mut dst, 1, 1));
+        assert_eq!((answer, dst), refused(Refusal::LossLevel));
+    }
+}
+
+/// The refusals before 5 allocate nothing. The work area has one plane more for an alpha plane in RLE, and a raw picture has none.
+#[test]
+fn refused_pixels_allocate_nothing() {
+    let mut decoder = BitmapStreamDecoder::default();
+    let mut dst = Vec::new();
+    let long = |byte: u8| [&[byte][..], &[0xF2; 9000]].concat();
+    for (stream, sides, refusal) in [
+        (vec![], (8192, 8192), Refusal::EmptyStream),
+        (vec![0x00], (8192, 8192), Refusal::MissingPad),
+        (long(0x10), (0, 1), Refusal::ZeroSize),
+        (long(0x10), (8193, 8192), Refusal::TooLarge),
+        (long(0x10), (8192, 8192), Refusal::InvalidUncompressedDataSize),
+        (long(0x00), (8192, 8192), Refusal::InvalidUncompressedDataSize),
+    ] {
+        let answer = decoder.decode_bitmap_stream_to_pixels::<BgrAChannels>(&stream, &mut dst, sides.0, sides.1);
+        assert_eq!((answer, dst.capacity()), (Err(refusal), 0));
+        assert_eq!(format!("{decoder:?}"), "BitmapStreamDecoder { planes_buffer: 0 bytes }");
+    }
+    decoder.decode_bitmap_stream_to_pixels::<BgrAChannels>(&hex("00 04 01 02 03 00"), &mut dst, 1, 1).unwrap();
+    assert_eq!(format!("{decoder:?}"), "BitmapStreamDecoder { planes_buffer: 0 bytes }");
+    // 15 x 1, subsampled: 15 + 2 * 8, and 15 for alpha.
+    decoder.decode_bitmap_stream_to_pixels::<BgrAChannels>(&hex("39 0F 04 04"), &mut dst, 15, 1).unwrap_err();
+    assert_eq!(format!("{decoder:?}"), "BitmapStreamDecoder { planes_buffer: 31 bytes }");
+    decoder.decode_bitmap_stream_to_pixels::<BgrAChannels>(&hex("19 0F 0F 04 04"), &mut dst, 15, 1).unwrap_err();
+    assert_eq!(format!("{decoder:?}"), "BitmapStreamDecoder { planes_buffer: 46 bytes }");
+    assert_eq!(dst, [3, 2, 1, 4]);
 }
 
 /// The same pictures as in `colours`, as streams.
@@ -95,6 +202,12 @@ fn the_work_area_is_kept() {
         decoder.decode_body_to_rgb24(argb(true, false), &body, &mut dst, width, height).unwrap();
         let rgb: Vec<u8> = (0..width * height).flat_map(|i| [planes[0][i], planes[1][i], planes[2][i]]).collect();
         assert_eq!(dst, rgb);
+        // With the first plane as alpha too, before the three.
+        let first = rdp6::decompress_8bpp_plane(&body, &mut vec![0; width * height], width, height).unwrap();
+        let body = [&body[..first], &body].concat();
+        dst.clear();
+        decoder.decode_body_to_pixels::<RgbAChannels>(argb(true, true), &body, &mut dst, width, height).unwrap();
+        assert_eq!(dst, rgb.chunks_exact(3).flat_map(|p| [p[0], p[1], p[2], p[0]]).collect::<Vec<u8>>());
     }
 }
 

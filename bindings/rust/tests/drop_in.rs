@@ -4,7 +4,9 @@
 
 mod program {
     use rdp6::bitmap_stream::decoder::BitmapStreamDecoder;
-    use rdp6::bitmap_stream::encoder::{BgrAChannels, BitmapStreamEncoder};
+    use rdp6::bitmap_stream::encoder::{
+        ABgrChannels, ARgbChannels, BgrAChannels, BitmapStreamEncoder, PixelAlpha, PixelFormat, RgbAChannels,
+    };
 
     include!("drop_in/program.rs");
 }

@@ -29,6 +29,11 @@ fn plane() {
 }
 
 #[test]
+fn overlay() {
+    assert_eq!(printed("overlay"), expected("overlay"));
+}
+
+#[test]
 fn picture() {
     assert_eq!(printed("picture"), expected("picture"));
 }

@@ -98,7 +98,7 @@ fn rust_functions(source: &str) -> Vec<Function> {
 #[test]
 fn the_declarations_are_those_of_the_header() {
     let functions = c_functions(&read("../../include/rdp6.h"));
-    assert_eq!(functions.len(), 15, "the functions of the header");
+    assert_eq!(functions.len(), 20, "the functions of the header");
     assert_eq!(rust_functions(&read("src/ffi.rs")), functions);
 }
 
@@ -118,6 +118,14 @@ fn another_declaration_is_found() {
         ("int64_t rdp6_stream_decode(const uint8_t *stream", "int64_t rdp6_stream_decode(uint8_t *stream"),
         ("size_t rdp6_stream_work_size(const uint8_t *stream, size_t stream_len,", "size_t rdp6_stream_work_size("),
         ("const uint8_t *a, size_t a_len, ", ""),
+        ("int64_t rdp6_encode_bitmap(uint32_t layout, ", "int64_t rdp6_encode_bitmap("),
+        (
+            "int64_t rdp6_stream_encode_bitmap_alpha(uint32_t layout",
+            "int64_t rdp6_stream_encode_bitmap_alpha(bool layout",
+        ),
+        ("bool chroma_subsampling, uint32_t layout,", "uint32_t layout, bool chroma_subsampling,"),
+        ("size_t rdp6_pixels_work_size(bool rle, bool alpha, ", "size_t rdp6_pixels_work_size(bool rle, "),
+        ("rdp6_stream_pixels_work_size(", "rdp6_pixels_stream_work_size("),
     ] {
         let edited = header.replace(from, to);
         assert_ne!(edited, header, "nothing to edit: {from}");
@@ -158,6 +166,20 @@ fn the_definitions_are_those_of_the_header() {
     let source = read("src/header.rs");
     for (name, number) in c_enum(&read("../../include/rdp6.h"), "rdp6_definition") {
         assert!(source.contains(&format!("const {name}: u32 = {number};")), "{name}");
+    }
+}
+
+/// `RDP6_LAYOUT_BGRA` is the number of `BgrAChannels`, and so on.
+#[test]
+fn the_layouts_are_those_of_the_header() {
+    let source = read("src/bitmap_stream/layout.rs");
+    let cases = c_enum(&read("../../include/rdp6.h"), "rdp6_layout");
+    assert_eq!(cases.len(), 4);
+    for ((name, number), layout) in cases.into_iter().zip(["BgrA", "RgbA", "ARgb", "ABgr"]) {
+        assert_eq!(name, format!("RDP6_LAYOUT_{}", layout.to_uppercase()));
+        let constant = format!("const {name}: u32 = {number};");
+        let used = format!("impl Layout for {layout}Channels {{\n    const NUMBER: u32 = {name};\n}}");
+        assert!(source.contains(&constant) && source.contains(&used), "{name}");
     }
 }
 
@@ -205,7 +227,7 @@ fn another_text_is_found() {
         ("\"a control byte is 0\"", "\"a control byte is 1\""),
         ("case RDP6_SHORT_PLANE:", "case RDP6_SHORT_IMAGE:"),
         ("\"the stream is empty\"", "\"a raw stream has no pad byte\""),
-        ("    case RDP6_SHORT_WORK:\n        return \"the work area is shorter than the three colour planes\";\n", ""),
+        ("    case RDP6_SHORT_WORK:\n        return \"the work area is shorter than its minimum size\";\n", ""),
         ("\"no refusal has this number\"", "\"\""),
     ] {
         let edited = header.replace(from, to);

@@ -1,25 +1,28 @@
 //! Packing a picture, as a stream and as a body. The expected results are written from docs/FORMAT.md.
 
+#[macro_use]
 mod support;
 
 use rdp6::{
-    decode, stream_decode, stream_work_size, AlphaChannel, BgrAChannels, BitmapEncodeError, BitmapStreamEncoder,
-    ColorChannels, Encoded, PixelAlpha, PixelFormat, Refusal,
+    decode, stream_decode, stream_work_size, ABgrChannels, ARgbChannels, AlphaChannel, BgrAChannels, BitmapEncodeError,
+    BitmapStreamEncoder, ColorChannels, Encoded, PixelAlpha, PixelFormat, Refusal, RgbAChannels,
 };
-use support::{argb, hex, Guarded, Noise, REFUSED_SIDES};
+use support::{argb, hex, Guarded, Layout, Noise, LAYOUTS, REFUSED_SIDES};
 
-/// Which of the eight methods is called, and how.
+/// Which of the eight methods is called, and how. Without a layout the source is channels.
 #[derive(Clone, Copy, Debug)]
 struct Form {
     stream: bool,
-    pixels: bool,
+    layout: Option<Layout>,
     alpha: bool,
     rle: bool,
 }
 
 /// All forms.
 fn forms() -> impl Iterator<Item = Form> {
-    (0..16).map(|i| Form { stream: i & 8 != 0, pixels: i & 4 != 0, alpha: i & 2 != 0, rle: i & 1 != 0 })
+    let sources = LAYOUTS.into_iter().map(Some).chain([None]);
+    sources
+        .flat_map(|layout| (0..8).map(move |i| Form { stream: i & 4 != 0, layout, alpha: i & 2 != 0, rle: i & 1 != 0 }))
 }
 
 /// The samples of R, G, B and A.
@@ -28,10 +31,38 @@ type Channels = [Vec<u8>; 4];
 /// The number of bytes or the refusal, and the destination after the call. Before it all its bytes are `EE`.
 type Outcome = (Result<usize, Refusal>, Vec<u8>);
 
-/// Pixels of B, G, R, A, as many as the shortest channel has samples.
-fn bgra([r, g, b, a]: &Channels) -> Vec<u8> {
+/// Pixels, as many as the shortest channel has samples.
+fn pixels(layout: Layout, [r, g, b, a]: &Channels) -> Vec<u8> {
     let count = [r, g, b, a].iter().map(|channel| channel.len()).min().unwrap();
-    (0..count).flat_map(|i| [b[i], g[i], r[i], a[i]]).collect()
+    (0..count).flat_map(|i| layout.pixel([r[i], g[i], b[i], a[i]])).collect()
+}
+
+fn pack_pixels_body(
+    layout: Layout,
+    alpha: bool,
+    encoder: &mut BitmapStreamEncoder,
+    src: &[u8],
+    dst: &mut [u8],
+    rle: bool,
+) -> Result<Encoded, Refusal> {
+    match alpha {
+        false => with_layout!(layout, F, encoder.encode_bitmap_body::<F>(src, dst, rle)),
+        true => with_layout!(layout, F, encoder.encode_bitmap_body_alpha::<F>(src, dst, rle)),
+    }
+}
+
+fn pack_pixels_stream(
+    layout: Layout,
+    alpha: bool,
+    encoder: &mut BitmapStreamEncoder,
+    src: &[u8],
+    dst: &mut [u8],
+    rle: bool,
+) -> Result<usize, Refusal> {
+    match alpha {
+        false => with_layout!(layout, F, encoder.encode_bitmap::<F>(src, dst, rle)),
+        true => with_layout!(layout, F, encoder.encode_bitmap_alpha::<F>(src, dst, rle)),
+    }
 }
 
 /// Calls a method that packs a body, and checks the header record: FORMAT 7.5, its alpha flag is false for four planes too.
@@ -42,11 +73,10 @@ fn pack_body(
     dst: &mut [u8],
 ) -> Result<usize, Refusal> {
     let [r, g, b, a] = channels;
-    let answer = match (form.pixels, form.alpha) {
-        (false, false) => encoder.encode_channels_body((r, g, b), dst, form.rle),
-        (false, true) => encoder.encode_channels_body_alpha((r, g, b, a), dst, form.rle),
-        (true, false) => encoder.encode_bitmap_body::<BgrAChannels>(&bgra(channels), dst, form.rle),
-        (true, true) => encoder.encode_bitmap_body_alpha::<BgrAChannels>(&bgra(channels), dst, form.rle),
+    let answer = match (form.layout, form.alpha) {
+        (None, false) => encoder.encode_channels_body((r, g, b), dst, form.rle),
+        (None, true) => encoder.encode_channels_body_alpha((r, g, b, a), dst, form.rle),
+        (Some(layout), alpha) => pack_pixels_body(layout, alpha, encoder, &pixels(layout, channels), dst, form.rle),
     };
     answer.map(|Encoded { bytes, header }| {
         assert_eq!(header, argb(form.rle, false));
@@ -61,11 +91,10 @@ fn pack_stream(
     dst: &mut [u8],
 ) -> Result<usize, Refusal> {
     let [r, g, b, a] = channels;
-    match (form.pixels, form.alpha) {
-        (false, false) => encoder.encode_channels_stream((r, g, b), dst, form.rle),
-        (false, true) => encoder.encode_channels_stream_alpha((r, g, b, a), dst, form.rle),
-        (true, false) => encoder.encode_bitmap::<BgrAChannels>(&bgra(channels), dst, form.rle),
-        (true, true) => encoder.encode_bitmap_alpha::<BgrAChannels>(&bgra(channels), dst, form.rle),
+    match (form.layout, form.alpha) {
+        (None, false) => encoder.encode_channels_stream((r, g, b), dst, form.rle),
+        (None, true) => encoder.encode_channels_stream_alpha((r, g, b, a), dst, form.rle),
+        (Some(layout), alpha) => pack_pixels_stream(layout, alpha, encoder, &pixels(layout, channels), dst, form.rle),
     }
 }
 
@@ -150,10 +179,10 @@ fn one_pixel_with_every_room() {
     }
 }
 
-/// The same written out, for pixels.
+/// The same written out, for pixels: R is 3, G 2, B 1 and A 4.
 #[test]
-fn one_pixel_in_every_form() {
-    for (stream, alpha, rle, bytes) in [
+fn one_pixel_in_every_layout_and_form() {
+    for (stream, alpha, rle, packed) in [
         (true, false, true, "30 10 03 10 02 10 01"),
         (true, false, false, "20 03 02 01 00"),
         (true, true, true, "30 10 04 10 03 10 02 10 01"),
@@ -163,9 +192,22 @@ fn one_pixel_in_every_form() {
         (false, true, true, "10 04 10 03 10 02 10 01"),
         (false, true, false, "04 03 02 01 00"),
     ] {
-        let bytes = hex(bytes);
-        let form = Form { stream, pixels: true, alpha, rle };
-        assert_eq!(pack(form, &one_pixel(), bytes.len(), (1, 1)), (Ok(bytes.len()), bytes), "{form:?}");
+        let packed = hex(packed);
+        for (layout, pixel) in [
+            (Layout::BgrA, [1, 2, 3, 4]),
+            (Layout::RgbA, [3, 2, 1, 4]),
+            (Layout::ARgb, [4, 3, 2, 1]),
+            (Layout::ABgr, [4, 1, 2, 3]),
+        ] {
+            let mut dst = Guarded::filled(0xEE, packed.len());
+            let mut encoder = BitmapStreamEncoder::new(1, 1);
+            let answer = match stream {
+                true => pack_pixels_stream(layout, alpha, &mut encoder, &pixel, dst.slice(), rle),
+                false => pack_pixels_body(layout, alpha, &mut encoder, &pixel, dst.slice(), rle).map(|body| body.bytes),
+            };
+            assert_eq!(answer, Ok(packed.len()), "{layout:?}");
+            assert_eq!(dst.after(), packed, "{layout:?}");
+        }
     }
 }
 
@@ -212,7 +254,7 @@ fn short_sources_are_refused() {
     channels[0].pop();
     channels[1].push(2);
     for stream in [false, true] {
-        let refused = pack(Form { stream, pixels: false, alpha: false, rle: false }, &channels, 400, (17, 2));
+        let refused = pack(Form { stream, layout: None, alpha: false, rle: false }, &channels, 400, (17, 2));
         assert_eq!(refused, (Err(Refusal::NotEnoughBytes), vec![0xEE; 400]));
     }
 }
@@ -220,16 +262,34 @@ fn short_sources_are_refused() {
 /// FORMAT 7.1: a trailing part of a pixel does not count.
 #[test]
 fn only_complete_pixels_count() {
-    for length in 0..=12 {
+    let planes = |layout, alpha| match (layout, alpha) {
+        (Layout::BgrA, false) => "03 07 02 06 01 05 00",
+        (Layout::RgbA, false) => "01 05 02 06 03 07 00",
+        (Layout::ARgb, false) => "02 06 03 07 04 08 00",
+        (Layout::ABgr, false) => "04 08 03 07 02 06 00",
+        (Layout::BgrA, true) => "04 08 03 07 02 06 01 05 00",
+        (Layout::RgbA, true) => "04 08 01 05 02 06 03 07 00",
+        (Layout::ARgb, true) => "01 05 02 06 03 07 04 08 00",
+        (Layout::ABgr, true) => "01 05 04 08 03 07 02 06 00",
+    };
+    for (length, (layout, alpha)) in
+        (0..=12).flat_map(|length| LAYOUTS.iter().flat_map(move |l| [(length, (*l, false)), (length, (*l, true))]))
+    {
         let pixels = &[1, 2, 3, 4, 5, 6, 7, 8, 9, 10, 11, 12][..length];
         let mut encoder = BitmapStreamEncoder::new(2, 1);
-        let (mut stream, mut body) = (Guarded::filled(0xEE, 9), Guarded::filled(0xEE, 8));
-        let streamed = encoder.encode_bitmap::<BgrAChannels>(pixels, stream.slice(), false);
-        let packed = encoder.encode_bitmap_body::<BgrAChannels>(pixels, body.slice(), false);
-        let expected = |count| if length < 8 { Err(Refusal::NotEnoughBytes) } else { Ok(count) };
-        assert_eq!((streamed, packed.map(|packed| packed.bytes)), (expected(8), expected(7)), "{length} bytes");
-        assert_eq!(stream.after(), hex(if length < 8 { "EE*9" } else { "20 03 07 02 06 01 05 00 EE" }));
-        assert_eq!(body.after(), hex(if length < 8 { "EE*8" } else { "03 07 02 06 01 05 00 EE" }));
+        let planes = hex(planes(layout, alpha));
+        let (mut stream, mut body) = (Guarded::filled(0xEE, planes.len() + 2), Guarded::filled(0xEE, planes.len() + 1));
+        let streamed = pack_pixels_stream(layout, alpha, &mut encoder, pixels, stream.slice(), false);
+        let packed = pack_pixels_body(layout, alpha, &mut encoder, pixels, body.slice(), false).map(|body| body.bytes);
+        if length < 8 {
+            assert_eq!((streamed, packed), (Err(Refusal::NotEnoughBytes), Err(Refusal::NotEnoughBytes)));
+            assert_eq!(stream.after(), vec![0xEE; planes.len() + 2], "{layout:?}, {length} bytes");
+            assert_eq!(body.after(), vec![0xEE; planes.len() + 1], "{layout:?}, {length} bytes");
+        } else {
+            assert_eq!((streamed, packed), (Ok(planes.len() + 1), Ok(planes.len())));
+            assert_eq!(stream.after(), [&[0x20][..], &planes, &[0xEE]].concat(), "{layout:?}, {length} bytes");
+            assert_eq!(body.after(), [&planes[..], &[0xEE]].concat(), "{layout:?}, {length} bytes");
+        }
     }
 }
 
@@ -272,20 +332,27 @@ fn channels_of_several_kinds() {
 }
 
 /// A service's function over any layout, with IronRDP's bounds.
-fn with_layout<F: PixelFormat + PixelAlpha>(pixels: &[u8], dst: &mut [u8]) -> Result<usize, BitmapEncodeError> {
+fn pack_layout<F: PixelFormat + PixelAlpha>(pixels: &[u8], dst: &mut [u8]) -> Result<usize, BitmapEncodeError> {
     let width = pixels.len() / F::STRIDE;
     BitmapStreamEncoder::new(width, 1).encode_bitmap_alpha::<F>(pixels, dst, false)
 }
 
-/// The constants of `BgrAChannels` are the offsets that the library uses.
-#[test]
-fn the_constants_are_those_of_the_layout() {
-    type F = BgrAChannels;
-    assert_eq!((F::STRIDE, F::R, F::G, F::B, F::A), (4, 2, 1, 0, 3));
+/// The constants of a layout are the offsets that the library uses.
+fn check_constants<F: ColorChannels + AlphaChannel>(offsets: (usize, usize, usize, usize)) {
+    assert_eq!(F::STRIDE, 4);
+    assert_eq!((F::R, F::G, F::B, F::A), offsets);
     let pixel = [10, 20, 30, 40];
     let mut stream = [0; 6];
-    assert_eq!(with_layout::<F>(&pixel, &mut stream), Ok(6));
+    assert_eq!(pack_layout::<F>(&pixel, &mut stream), Ok(6));
     assert_eq!(stream, [0x20, pixel[F::A], pixel[F::R], pixel[F::G], pixel[F::B], 0]);
+}
+
+#[test]
+fn the_constants_are_those_of_the_layout() {
+    check_constants::<BgrAChannels>((2, 1, 0, 3));
+    check_constants::<RgbAChannels>((0, 1, 2, 3));
+    check_constants::<ARgbChannels>((1, 2, 3, 0));
+    check_constants::<ABgrChannels>((3, 2, 1, 0));
 }
 
 /// Pictures of random samples, with their image.

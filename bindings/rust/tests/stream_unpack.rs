@@ -3,8 +3,8 @@
 
 mod support;
 
-use rdp6::{compress_8bpp_plane, decode, image_size, stream_decode, stream_work_size, work_size, Refusal};
-use support::{argb, aycocg, first, header_of, hex, split, Guarded, Noise, REFUSED_SIDES};
+use rdp6::{decode, image_size, stream_decode, stream_work_size, work_size, Refusal};
+use support::{argb, aycocg, first, header_of, hex, random_stream, split, Guarded, Noise, REFUSED_SIDES};
 
 /// The answer, and the work area and the image after the call. Before it all their bytes are `EE`.
 type Outcome = (Result<usize, Refusal>, Vec<u8>, Vec<u8>);
@@ -137,27 +137,6 @@ fn sides_are_checked_before_the_body() {
             }
         }
     }
-}
-
-/// A stream with this header byte and random samples. The pad byte of a raw stream is not 0.
-fn random_stream(byte: u8, (width, height): (usize, usize), noise: &mut Noise) -> Vec<u8> {
-    let (subsampled, alpha) = (byte & 0x07 != 0 && byte & 0x08 != 0, byte & 0x20 == 0);
-    let chroma = if subsampled { ((width + 1) / 2, (height + 1) / 2) } else { (width, height) };
-    let mut planes = vec![(width, height), chroma, chroma];
-    planes.splice(0..0, alpha.then_some((width, height)));
-    let mut stream = vec![byte];
-    for (width, height) in planes {
-        let samples = noise.samples(width * height);
-        if byte & 0x10 == 0 {
-            stream.extend(samples);
-        } else {
-            let mut packed = vec![0; 2 * width * height];
-            let count = compress_8bpp_plane(&samples, &mut packed, width, height).unwrap();
-            stream.extend(&packed[..count]);
-        }
-    }
-    stream.extend((byte & 0x10 == 0).then_some(0xDD));
-    stream
 }
 
 /// All header bytes, each with a complete stream, with all its prefixes, and with one byte changed: what `decode` does with the header record

@@ -1,90 +1,17 @@
 //! Packing a picture.
 
+use super::layout::Layout;
 use crate::answer::to_result;
 use crate::ffi;
 use crate::{BitmapStreamHeader, ColorPlaneDefinition, Refusal};
 
+#[doc(inline)]
+pub use super::layout::{
+    ABgrChannels, ARgbChannels, AlphaChannel, BgrAChannels, ColorChannels, PixelAlpha, PixelFormat, RgbAChannels,
+};
+
 /// IronRDP's name for its error. Here it is a refusal of [`BitmapStreamEncoder`]: 1, 2, 11 or 12.
 pub type BitmapEncodeError = Refusal;
-
-/// The functions of the library that pack a layout of pixels.
-mod sealed {
-    use super::ffi::EncodeBitmap;
-
-    pub trait Layout {
-        const STREAM: EncodeBitmap;
-        const BODY: EncodeBitmap;
-    }
-
-    pub trait AlphaLayout: Layout {
-        const STREAM_ALPHA: EncodeBitmap;
-        const BODY_ALPHA: EncodeBitmap;
-    }
-}
-
-/// The offsets of the colours in a pixel. The library has its layouts built in, so a service cannot implement this for a type of its own:
-///
-/// ```compile_fail
-/// struct Own;
-///
-/// impl rdp6::ColorChannels for Own {
-///     const STRIDE: usize = 4;
-///     const R: usize = 0;
-///     const G: usize = 1;
-///     const B: usize = 2;
-/// }
-/// ```
-pub trait ColorChannels: sealed::Layout {
-    /// The number of bytes of a pixel.
-    const STRIDE: usize;
-    /// The offset of R.
-    const R: usize;
-    /// The offset of G.
-    const G: usize;
-    /// The offset of B.
-    const B: usize;
-}
-
-/// The offset of alpha in a pixel.
-pub trait AlphaChannel: sealed::AlphaLayout {
-    /// The offset of A.
-    const A: usize;
-}
-
-/// A layout of pixels that [`BitmapStreamEncoder::encode_bitmap`] packs.
-pub trait PixelFormat: ColorChannels {}
-
-impl<T: ColorChannels> PixelFormat for T {}
-
-/// A layout of pixels that [`BitmapStreamEncoder::encode_bitmap_alpha`] packs.
-pub trait PixelAlpha: PixelFormat + AlphaChannel {}
-
-impl<T: ColorChannels + AlphaChannel> PixelAlpha for T {}
-
-/// Pixels of four bytes: B, G, R, A.
-#[derive(Clone, Copy, Debug)]
-pub struct BgrAChannels;
-
-impl ColorChannels for BgrAChannels {
-    const STRIDE: usize = 4;
-    const R: usize = 2;
-    const G: usize = 1;
-    const B: usize = 0;
-}
-
-impl AlphaChannel for BgrAChannels {
-    const A: usize = 3;
-}
-
-impl sealed::Layout for BgrAChannels {
-    const STREAM: ffi::EncodeBitmap = ffi::rdp6_stream_encode_bitmap;
-    const BODY: ffi::EncodeBitmap = ffi::rdp6_encode_bitmap;
-}
-
-impl sealed::AlphaLayout for BgrAChannels {
-    const STREAM_ALPHA: ffi::EncodeBitmap = ffi::rdp6_stream_encode_bitmap_alpha;
-    const BODY_ALPHA: ffi::EncodeBitmap = ffi::rdp6_encode_bitmap_alpha;
-}
 
 /// What the body forms return: the length of the body, and its header record.
 #[derive(Clone, Copy, Debug, PartialEq, Eq, Hash)]
@@ -229,12 +156,19 @@ impl BitmapStreamEncoder {
 
     /// Packs R, G and B of pixels, row by row, into a stream. Alpha is left out. What follows the first width × height pixels is not read.
     ///
-    /// ```
-    /// use rdp6::{BgrAChannels, BitmapStreamEncoder};
+    /// The layout of the pixels is [`BgrAChannels`], [`RgbAChannels`], [`ARgbChannels`] or [`ABgrChannels`].
     ///
-    /// let pixels = [1, 2, 3, 255, 4, 5, 6, 255];
+    /// ```
+    /// use rdp6::{ARgbChannels, BgrAChannels, BitmapStreamEncoder};
+    ///
+    /// let mut encoder = BitmapStreamEncoder::new(2, 1);
     /// let mut stream = [0; 8];
-    /// assert_eq!(BitmapStreamEncoder::new(2, 1).encode_bitmap::<BgrAChannels>(&pixels, &mut stream, false), Ok(8));
+    /// let pixels = [1, 2, 3, 255, 4, 5, 6, 255];
+    /// assert_eq!(encoder.encode_bitmap::<BgrAChannels>(&pixels, &mut stream, false), Ok(8));
+    /// assert_eq!(stream, [0x20, 3, 6, 2, 5, 1, 4, 0]);
+    ///
+    /// let pixels = [255, 3, 2, 1, 255, 6, 5, 4]; // the same
+    /// assert_eq!(encoder.encode_bitmap::<ARgbChannels>(&pixels, &mut stream, false), Ok(8));
     /// assert_eq!(stream, [0x20, 3, 6, 2, 5, 1, 4, 0]);
     /// ```
     ///
@@ -245,7 +179,7 @@ impl BitmapStreamEncoder {
     where
         F: PixelFormat,
     {
-        self.pixels(F::STREAM, src, dst, rle)
+        self.pixels::<F>(ffi::rdp6_stream_encode_bitmap, src, dst, rle)
     }
 
     /// The same with alpha: A, R, G, B. The header byte is that of three planes ([four planes](BitmapStreamEncoder)).
@@ -254,15 +188,15 @@ impl BitmapStreamEncoder {
     /// use rdp6::{BgrAChannels, BitmapStreamDecoder, BitmapStreamEncoder};
     ///
     /// # fn main() -> Result<(), rdp6::Refusal> {
-    /// let pixels = [1, 2, 3, 255];
+    /// let pixels = [1, 2, 3, 128];
     /// let mut stream = [0; 6];
     /// BitmapStreamEncoder::new(1, 1).encode_bitmap_alpha::<BgrAChannels>(&pixels, &mut stream, false)?;
-    /// assert_eq!(stream, [0x20, 255, 3, 2, 1, 0]);
+    /// assert_eq!(stream, [0x20, 128, 3, 2, 1, 0]);
     ///
     /// stream[0] &= !0x20; // there is an alpha plane
     /// let mut image = Vec::new();
-    /// BitmapStreamDecoder::default().decode_bitmap_stream_to_rgb24(&stream, &mut image, 1, 1)?;
-    /// assert_eq!(image, [3, 2, 1]);
+    /// BitmapStreamDecoder::default().decode_bitmap_stream_to_pixels::<BgrAChannels>(&stream, &mut image, 1, 1)?;
+    /// assert_eq!(image, pixels);
     /// # Ok(())
     /// # }
     /// ```
@@ -274,7 +208,7 @@ impl BitmapStreamEncoder {
     where
         F: PixelFormat + PixelAlpha,
     {
-        self.pixels(F::STREAM_ALPHA, src, dst, rle)
+        self.pixels::<F>(ffi::rdp6_stream_encode_bitmap_alpha, src, dst, rle)
     }
 }
 
@@ -361,7 +295,8 @@ impl BitmapStreamEncoder {
     where
         F: PixelFormat,
     {
-        self.pixels(F::BODY, src, dst, rle).map(|bytes| Encoded::of(bytes, rle))
+        let answer = self.pixels::<F>(ffi::rdp6_encode_bitmap, src, dst, rle);
+        answer.map(|bytes| Encoded::of(bytes, rle))
     }
 
     /// [`encode_bitmap_alpha`](BitmapStreamEncoder::encode_bitmap_alpha) without the header byte. The returned `use_alpha` is false here too: a
@@ -390,11 +325,12 @@ impl BitmapStreamEncoder {
     where
         F: PixelFormat + PixelAlpha,
     {
-        self.pixels(F::BODY_ALPHA, src, dst, rle).map(|bytes| Encoded::of(bytes, rle))
+        let answer = self.pixels::<F>(ffi::rdp6_encode_bitmap_alpha, src, dst, rle);
+        answer.map(|bytes| Encoded::of(bytes, rle))
     }
 }
 
-// The calls. `encode` is one of the library's functions: only this module passes one, and only it implements layouts.
+// The calls. `encode` is one of the library's functions: only this module passes one.
 impl BitmapStreamEncoder {
     fn channels(
         &self,
@@ -450,10 +386,17 @@ impl BitmapStreamEncoder {
         to_result(answer)
     }
 
-    fn pixels(&self, encode: ffi::EncodeBitmap, src: &[u8], dst: &mut [u8], rle: bool) -> Result<usize, Refusal> {
+    fn pixels<F: Layout>(
+        &self,
+        encode: ffi::EncodeBitmap,
+        src: &[u8],
+        dst: &mut [u8],
+        rle: bool,
+    ) -> Result<usize, Refusal> {
         // SAFETY: both slices are valid for the call with these lengths, and nothing keeps them; `dst`, a `&mut`, overlaps no other.
-        let answer =
-            unsafe { encode(src.as_ptr(), src.len(), dst.as_mut_ptr(), dst.len(), rle, self.width, self.height) };
+        let answer = unsafe {
+            encode(F::NUMBER, src.as_ptr(), src.len(), dst.as_mut_ptr(), dst.len(), rle, self.width, self.height)
+        };
         to_result(answer)
     }
 }

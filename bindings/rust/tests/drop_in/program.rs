@@ -1,6 +1,6 @@
-// A program that packs and unpacks pictures. Of the codec it uses the names BitmapStreamDecoder, BitmapStreamEncoder and BgrAChannels. The file
-// that includes it has the `use` lines that say whose they are: this crate's (tests/drop_in.rs) or IronRDP's (differential/). With both it
-// compiles and prints the same.
+// A program that packs and unpacks pictures. Of the codec it uses the names BitmapStreamDecoder, BitmapStreamEncoder, the layouts BgrAChannels,
+// RgbAChannels, ARgbChannels and ABgrChannels, and their traits PixelFormat and PixelAlpha. The file that includes it has the `use` lines that say
+// whose they are: this crate's (tests/drop_in.rs) or IronRDP's (differential/). With both it compiles and prints the same.
 //
 // Channels are given as `into_iter()` of vectors, which both take. Errors are not told apart: IronRDP has other variants and texts. After an
 // error of the encoder the destination is not printed: IronRDP has written the header byte by then, this crate has not.
@@ -44,8 +44,8 @@ fn stream(answer: Result<usize, impl std::error::Error + 'static>, dst: &[u8]) -
     answer.map(|count| dst[..count].to_vec()).map_err(failed)
 }
 
-/// Packs pixels, with their alpha or without.
-fn pack(
+/// Packs pixels of a layout, with their alpha or without.
+fn pack<F: PixelFormat + PixelAlpha>(
     (width, height, pixels): (usize, usize, &[u8]),
     alpha: bool,
     rle: bool,
@@ -53,12 +53,22 @@ fn pack(
 ) -> Result<Vec<u8>, String> {
     let mut encoder = BitmapStreamEncoder::new(width, height);
     let answer = if alpha {
-        encoder.encode_bitmap_alpha::<BgrAChannels>(pixels, dst, rle)
+        encoder.encode_bitmap_alpha::<F>(pixels, dst, rle)
     } else {
-        encoder.encode_bitmap::<BgrAChannels>(pixels, dst, rle)
+        encoder.encode_bitmap::<F>(pixels, dst, rle)
     };
     stream(answer, dst)
 }
+
+type Pack = fn((usize, usize, &[u8]), bool, bool, &mut [u8]) -> Result<Vec<u8>, String>;
+
+/// The layouts: a name, the function that packs it, and where its bytes are in B, G, R, A.
+const LAYOUTS: [(&str, Pack, [usize; 4]); 4] = [
+    ("BGRA", pack::<BgrAChannels>, [0, 1, 2, 3]),
+    ("RGBA", pack::<RgbAChannels>, [2, 1, 0, 3]),
+    ("ARGB", pack::<ARgbChannels>, [3, 2, 1, 0]),
+    ("ABGR", pack::<ABgrChannels>, [3, 0, 1, 2]),
+];
 
 /// The same from one vector for each channel.
 fn pack_channels(
@@ -98,10 +108,15 @@ fn there_and_back(text: &mut Vec<String>) {
         let picture = (width, height, &pixels[..]);
         for (form, alpha, rle) in FORMS {
             let mut dst = vec![0; 8 * width * height + 2];
-            let mut stream = pack(picture, alpha, rle, &mut dst).expect("there is room enough");
+            let mut stream = pack::<BgrAChannels>(picture, alpha, rle, &mut dst).expect("there is room enough");
             text.push(format!("{name}, {width} x {height}, {form}: {} bytes, {}", stream.len(), hexadecimal(&stream)));
             let same = pack_channels(picture, alpha, rle, &mut dst).as_ref() == Ok(&stream);
             text.push(format!("  from channels: {}", if same { "the same" } else { "another stream" }));
+            for (layout, pack, places) in LAYOUTS.into_iter().skip(1) {
+                let pixels: Vec<u8> = pixels.chunks(4).flat_map(|pixel| places.map(|place| pixel[place])).collect();
+                let same = pack((width, height, &pixels), alpha, rle, &mut dst).as_ref() == Ok(&stream);
+                text.push(format!("  from {layout}: {}", if same { "the same" } else { "another stream" }));
+            }
             text.push(format!("  unpacked: {}", unpack(&mut decoder, &stream, width, height)));
             if alpha {
                 stream[0] &= !0x20;
@@ -111,11 +126,24 @@ fn there_and_back(text: &mut Vec<String>) {
     }
 }
 
+/// The same bytes taken for pixels of each layout.
+fn layouts(text: &mut Vec<String>) {
+    for (name, width, height, pixels) in pictures().into_iter().filter(|picture| picture.1 < 8) {
+        for ((layout, pack, _), (form, alpha, rle)) in
+            LAYOUTS.into_iter().flat_map(|layout| FORMS.map(|form| (layout, form)))
+        {
+            let mut dst = vec![0; 8 * width * height + 2];
+            let stream = pack((width, height, &pixels), alpha, rle, &mut dst).expect("there is room enough");
+            text.push(format!("{name} as {layout}, {form}: {}", hexadecimal(&stream)));
+        }
+    }
+}
+
 /// Destinations without room for the header byte, for the body, for its last byte; and with room for all.
 fn small_destinations(text: &mut Vec<String>) {
     for (form, alpha, rle) in FORMS {
         for room in 0..10 {
-            for (from, pack) in [("pixels", pack as fn(_, _, _, &mut [u8]) -> _), ("channels", pack_channels)] {
+            for (from, pack) in [("pixels", pack::<BgrAChannels> as Pack), ("channels", pack_channels)] {
                 let packed = pack((1, 1, &[1, 2, 3, 4][..]), alpha, rle, &mut vec![0; room]);
                 let packed = packed.map_or_else(|error| error, |stream| hexadecimal(&stream));
                 text.push(format!("room {room}, {form}, from {from}: {packed}"));
@@ -160,6 +188,7 @@ fn other_streams(text: &mut Vec<String>) {
 pub fn run() -> String {
     let mut text = Vec::new();
     there_and_back(&mut text);
+    layouts(&mut text);
     small_destinations(&mut text);
     other_streams(&mut text);
     text.join("\n") + "\n"

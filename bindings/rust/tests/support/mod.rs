@@ -1,7 +1,8 @@
-//! Shared by the tests: bytes written in hexadecimal, slices with guard bytes, headers, streams, the order of refusals, random samples.
+//! Shared by the tests: bytes written in hexadecimal, slices with guard bytes, headers, streams, layouts, the order of refusals, random
+//! samples and streams.
 #![allow(dead_code)] // no test uses all of it
 
-use rdp6::{BitmapStreamHeader, ColorPlaneDefinition, Refusal};
+use rdp6::{compress_8bpp_plane, BitmapStreamHeader, ColorPlaneDefinition, Refusal};
 
 /// Bytes written in hexadecimal: `1F 09` or `1F09`; `EE*4` for four bytes `EE`, a space or a comma behind it; `-` for none.
 pub fn hex(text: &str) -> Vec<u8> {
@@ -85,6 +86,59 @@ pub fn split(stream: &[u8]) -> Result<(BitmapStreamHeader, &[u8]), Refusal> {
     Ok((header, body))
 }
 
+/// The layouts.
+#[derive(Clone, Copy, Debug, PartialEq, Eq)]
+pub enum Layout {
+    BgrA,
+    RgbA,
+    ARgb,
+    ABgr,
+}
+
+pub const LAYOUTS: [Layout; 4] = [Layout::BgrA, Layout::RgbA, Layout::ARgb, Layout::ABgr];
+
+impl Layout {
+    /// The four bytes of a pixel, in the order of the layout's name.
+    pub fn pixel(self, [r, g, b, a]: [u8; 4]) -> [u8; 4] {
+        match self {
+            Layout::BgrA => [b, g, r, a],
+            Layout::RgbA => [r, g, b, a],
+            Layout::ARgb => [a, r, g, b],
+            Layout::ABgr => [a, b, g, r],
+        }
+    }
+
+    /// Pixels, given R, G, B and A of each.
+    pub fn pixels(self, rgba: &[u8]) -> Vec<u8> {
+        rgba.chunks_exact(4).flat_map(|p| self.pixel([p[0], p[1], p[2], p[3]])).collect()
+    }
+}
+
+/// `$call` with the type of a layout as `$name`.
+#[allow(unused_macros)] // no test uses all of this module
+macro_rules! with_layout {
+    ($layout:expr, $name:ident, $call:expr) => {
+        match $layout {
+            support::Layout::BgrA => {
+                type $name = rdp6::BgrAChannels;
+                $call
+            }
+            support::Layout::RgbA => {
+                type $name = rdp6::RgbAChannels;
+                $call
+            }
+            support::Layout::ARgb => {
+                type $name = rdp6::ARgbChannels;
+                $call
+            }
+            support::Layout::ABgr => {
+                type $name = rdp6::ABgrChannels;
+                $call
+            }
+        }
+    };
+}
+
 /// Sides with their refusal. FORMAT 8.2: refusal 1 comes before refusal 2, and both before all others.
 pub const REFUSED_SIDES: [(usize, usize, Refusal); 16] = [
     (0, 1, Refusal::ZeroSize),
@@ -138,4 +192,25 @@ impl Noise {
         samples.truncate(count);
         samples
     }
+}
+
+/// A stream with this header byte and random samples. The pad byte of a raw stream is not 0.
+pub fn random_stream(byte: u8, (width, height): (usize, usize), noise: &mut Noise) -> Vec<u8> {
+    let (subsampled, alpha) = (byte & 0x07 != 0 && byte & 0x08 != 0, byte & 0x20 == 0);
+    let chroma = if subsampled { ((width + 1) / 2, (height + 1) / 2) } else { (width, height) };
+    let mut planes = vec![(width, height), chroma, chroma];
+    planes.splice(0..0, alpha.then_some((width, height)));
+    let mut stream = vec![byte];
+    for (width, height) in planes {
+        let samples = noise.samples(width * height);
+        if byte & 0x10 == 0 {
+            stream.extend(samples);
+        } else {
+            let mut packed = vec![0; 2 * width * height];
+            let count = compress_8bpp_plane(&samples, &mut packed, width, height).unwrap();
+            stream.extend(&packed[..count]);
+        }
+    }
+    stream.extend((byte & 0x10 == 0).then_some(0xDD));
+    stream
 }
