@@ -35,6 +35,7 @@ pub type EncodeChannelsAlpha = unsafe extern "C" fn(
 
 /// The type of the functions that pack pixels.
 pub type EncodeBitmap = unsafe extern "C" fn(
+    layout: u32,
     src: *const u8,
     src_len: usize,
     dst: *mut u8,
@@ -59,6 +60,22 @@ extern "C" {
     pub fn rdp6_stream_work_size(stream: *const u8, stream_len: usize, width: usize, height: usize) -> usize;
 
     pub fn rdp6_image_size(width: usize, height: usize) -> usize;
+
+    pub fn rdp6_stream_decode_pixels(
+        layout: u32,
+        stream: *const u8,
+        stream_len: usize,
+        work: *mut u8,
+        work_len: usize,
+        image: *mut u8,
+        image_len: usize,
+        width: usize,
+        height: usize,
+    ) -> i64;
+
+    pub fn rdp6_stream_pixels_work_size(stream: *const u8, stream_len: usize, width: usize, height: usize) -> usize;
+
+    pub fn rdp6_pixels_image_size(width: usize, height: usize) -> usize;
 
     pub fn rdp6_stream_encode_channels(
         r: *const u8,
@@ -91,6 +108,7 @@ extern "C" {
     ) -> i64;
 
     pub fn rdp6_stream_encode_bitmap(
+        layout: u32,
         src: *const u8,
         src_len: usize,
         dst: *mut u8,
@@ -101,6 +119,7 @@ extern "C" {
     ) -> i64;
 
     pub fn rdp6_stream_encode_bitmap_alpha(
+        layout: u32,
         src: *const u8,
         src_len: usize,
         dst: *mut u8,
@@ -127,6 +146,32 @@ extern "C" {
     ) -> i64;
 
     pub fn rdp6_work_size(rle: bool, definition: u32, chroma_subsampling: bool, width: usize, height: usize) -> usize;
+
+    pub fn rdp6_decode_pixels(
+        rle: bool,
+        alpha: bool,
+        definition: u32,
+        color_loss_level: u32,
+        chroma_subsampling: bool,
+        layout: u32,
+        body: *const u8,
+        body_len: usize,
+        work: *mut u8,
+        work_len: usize,
+        image: *mut u8,
+        image_len: usize,
+        width: usize,
+        height: usize,
+    ) -> i64;
+
+    pub fn rdp6_pixels_work_size(
+        rle: bool,
+        alpha: bool,
+        definition: u32,
+        chroma_subsampling: bool,
+        width: usize,
+        height: usize,
+    ) -> usize;
 
     pub fn rdp6_encode_channels(
         r: *const u8,
@@ -159,6 +204,7 @@ extern "C" {
     ) -> i64;
 
     pub fn rdp6_encode_bitmap(
+        layout: u32,
         src: *const u8,
         src_len: usize,
         dst: *mut u8,
@@ -169,6 +215,7 @@ extern "C" {
     ) -> i64;
 
     pub fn rdp6_encode_bitmap_alpha(
+        layout: u32,
         src: *const u8,
         src_len: usize,
         dst: *mut u8,
