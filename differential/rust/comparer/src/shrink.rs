@@ -13,6 +13,7 @@ mod unpack;
 use crate::case::Operation;
 use crate::check::{Comparer, Difference};
 use crate::input::Input;
+use crate::layout::Layout;
 use crate::picture::OwnedPicture;
 use std::ops::Range;
 
@@ -80,6 +81,11 @@ fn smaller_inputs<'a>(input: &'a Input, picture: Option<&'a OwnedPicture>) -> Bo
         Input::Encoding(case) => Box::new(encoding::smaller(case).map(Input::Encoding)),
         Input::Prefix(case) => Box::new(prefix::smaller(case).map(Input::Prefix)),
     }
+}
+
+/// Layouts under this one, the lowest first.
+fn lower_layouts(layout: Layout) -> impl Iterator<Item = Layout> {
+    lower(layout.0 as usize).map(|number| Layout(number as u32))
 }
 
 /// Numbers under `value`, the lowest first: 0, 1, a half, then nearer and nearer to it.
