@@ -37,7 +37,8 @@ static void *allocate(size_t size)
 static void prepare(void)
 {
     b->plane_len = (size_t)rdp6_compress_8bpp_plane(b->samples, SAMPLES, b->plane, sizeof b->plane, WIDTH, HEIGHT);
-    b->stream_len = (size_t)rdp6_stream_encode_bitmap(b->samples, sizeof b->samples, b->stream, sizeof b->stream, true, WIDTH, HEIGHT);
+    b->stream_len = (size_t)rdp6_stream_encode_bitmap(RDP6_LAYOUT_BGRA, b->samples, sizeof b->samples, b->stream, sizeof b->stream, true, WIDTH,
+                                                      HEIGHT);
 }
 
 static void nothing(void)
@@ -60,6 +61,17 @@ static void unpack_stream(void)
     rdp6_stream_decode(b->stream, b->stream_len, b->work, sizeof b->work, b->image, sizeof b->image, WIDTH, HEIGHT);
 }
 
+static void unpack_picture_to_pixels(void)
+{
+    rdp6_decode_pixels(true, false, RDP6_ARGB, 0, false, RDP6_LAYOUT_RGBA, b->stream + 1, b->stream_len - 1, b->work, sizeof b->work, b->image,
+                       sizeof b->image, WIDTH, HEIGHT);
+}
+
+static void unpack_stream_to_pixels(void)
+{
+    rdp6_stream_decode_pixels(RDP6_LAYOUT_RGBA, b->stream, b->stream_len, b->work, sizeof b->work, b->image, sizeof b->image, WIDTH, HEIGHT);
+}
+
 static void pack_plane(void)
 {
     rdp6_compress_8bpp_plane(b->samples, sizeof b->samples, b->work, sizeof b->work, WIDTH, HEIGHT);
@@ -69,6 +81,11 @@ static void pack_picture(void)
 {
     rdp6_encode_channels_alpha(b->samples, SAMPLES, b->samples, SAMPLES, b->samples, SAMPLES, b->samples, SAMPLES, b->work, sizeof b->work,
                                true, WIDTH, HEIGHT);
+}
+
+static void pack_pixels(void)
+{
+    rdp6_encode_bitmap_alpha(RDP6_LAYOUT_RGBA, b->samples, sizeof b->samples, b->work, sizeof b->work, true, WIDTH, HEIGHT);
 }
 
 static void pack_stream(void)
@@ -103,8 +120,11 @@ static const struct measured {
     {"rdp6_decompress_8bpp_plane", unpack_plane},
     {"rdp6_decode", unpack_picture},
     {"rdp6_stream_decode", unpack_stream},
+    {"rdp6_decode_pixels", unpack_picture_to_pixels},
+    {"rdp6_stream_decode_pixels", unpack_stream_to_pixels},
     {"rdp6_compress_8bpp_plane", pack_plane},
     {"rdp6_encode_channels_alpha", pack_picture},
+    {"rdp6_encode_bitmap_alpha", pack_pixels},
     {"rdp6_stream_encode_channels_alpha", pack_stream},
 };
 

@@ -8,8 +8,9 @@ use std::fs;
 use std::path::Path;
 
 use rdp6::{
-    compress_8bpp_plane, decode, decompress_8bpp_plane, stream_decode, stream_work_size, BgrAChannels,
-    BitmapStreamDecoder, BitmapStreamEncoder, Encoded, Refusal,
+    compress_8bpp_plane, decode, decode_pixels, decompress_8bpp_plane, stream_decode, stream_decode_pixels,
+    stream_pixels_work_size, stream_work_size, ABgrChannels, ARgbChannels, BgrAChannels, BitmapStreamDecoder,
+    BitmapStreamEncoder, Encoded, Refusal, RgbAChannels,
 };
 use support::{argb, aycocg, hex, Guarded};
 
@@ -42,6 +43,31 @@ fn answer(field: &str) -> Result<usize, Refusal> {
         None => Ok(number(field)),
         Some(refusal) => Err(Refusal::try_from(number(refusal) as u8).expect("a refusal")),
     }
+}
+
+/// A call with the type of a layout, by the number of the field.
+macro_rules! with_layout {
+    ($field:expr, $layout:ident => $call:expr) => {
+        match $field {
+            "0" => {
+                type $layout = BgrAChannels;
+                $call
+            }
+            "1" => {
+                type $layout = RgbAChannels;
+                $call
+            }
+            "2" => {
+                type $layout = ARgbChannels;
+                $call
+            }
+            "3" => {
+                type $layout = ABgrChannels;
+                $call
+            }
+            other => panic!("no layout: {other}"),
+        }
+    };
 }
 
 type Plane = fn(&[u8], &mut [u8], usize, usize) -> Result<usize, Refusal>;
@@ -123,6 +149,49 @@ fn pictures_unpacked() {
     }
 }
 
+/// WIDTH HEIGHT RLE ALPHA DEFINITION LEVEL SUBSAMPLED LAYOUT WORKROOM IMAGEROOM ANSWER BODY WORK-AFTER IMAGE-AFTER
+#[test]
+fn pictures_unpacked_to_pixels() {
+    for file in ["pixels-unpack.txt", "examples-pixels.txt", "refusals-pixels.txt"] {
+        for_each_case("picture_vectors", file, |case| {
+            let (width, height, rle, alpha) = (number(case[0]), number(case[1]), flag(case[2]), flag(case[3]));
+            let header = match (case[4], u8::try_from(number(case[5]))) {
+                ("0", _) => argb(rle, alpha),
+                ("1", Ok(level)) => aycocg(rle, alpha, level, flag(case[6])),
+                _ => return, // an unknown definition, or a level over 255: only C can pass them
+            };
+            let body = hex(case[11]);
+            let (mut work, mut image) =
+                (Guarded::filled(0xEE, number(case[8])), Guarded::filled(0xEE, number(case[9])));
+            let result = with_layout!(case[7], L => {
+                decode_pixels::<L>(header, &body, work.slice(), image.slice(), width, height)
+            });
+            assert_eq!(result, answer(case[10]), "{case:?}");
+            assert_eq!(work.after(), hex(case[12]), "{case:?}");
+            assert_eq!(image.after(), hex(case[13]), "{case:?}");
+        });
+    }
+}
+
+/// WIDTH HEIGHT LAYOUT WORKROOM IMAGEROOM WORKSIZE ANSWER STREAM WORK-AFTER IMAGE-AFTER
+#[test]
+fn streams_unpacked_to_pixels() {
+    for file in ["stream-pixels-unpack.txt", "examples-stream-pixels.txt", "refusals-stream-pixels.txt"] {
+        for_each_case("picture_vectors", file, |case| {
+            let (width, height, stream) = (number(case[0]), number(case[1]), hex(case[7]));
+            let (mut work, mut image) =
+                (Guarded::filled(0xEE, number(case[3])), Guarded::filled(0xEE, number(case[4])));
+            assert_eq!(stream_pixels_work_size(&stream, width, height), number(case[5]), "{case:?}");
+            let result = with_layout!(case[2], L => {
+                stream_decode_pixels::<L>(&stream, work.slice(), image.slice(), width, height)
+            });
+            assert_eq!(result, answer(case[6]), "{case:?}");
+            assert_eq!(work.after(), hex(case[8]), "{case:?}");
+            assert_eq!(image.after(), hex(case[9]), "{case:?}");
+        });
+    }
+}
+
 /// WIDTH HEIGHT WORKROOM IMAGEROOM WORKSIZE ANSWER STREAM WORK-AFTER IMAGE-AFTER
 fn check_stream(decoder: &mut BitmapStreamDecoder, case: &[&str]) {
     let (width, height, expected, stream) = (number(case[0]), number(case[1]), answer(case[5]), hex(case[6]));
@@ -153,16 +222,16 @@ fn channels(fields: &[&str]) -> [Vec<u8>; 4] {
     [0, 1, 2, 3].map(|i| hex(fields[i]))
 }
 
-/// WIDTH HEIGHT RLE ALPHA ROOM: `pack` gets an encoder, the destination, RLE and ALPHA.
+/// `sides` are WIDTH and HEIGHT, `form` is RLE ALPHA ROOM: `pack` gets an encoder, the destination, RLE and ALPHA.
 fn check_packed<T: Debug + PartialEq>(
-    case: &[&str],
+    (case, sides, form): (&[&str], &[&str], &[&str]),
     expected: Result<T, Refusal>,
     after: &str,
     pack: impl FnOnce(&mut BitmapStreamEncoder, &mut [u8], bool, bool) -> Result<T, Refusal>,
 ) {
-    let mut encoder = BitmapStreamEncoder::new(number(case[0]), number(case[1]));
-    let mut dst = Guarded::filled(0xEE, number(case[4]));
-    assert_eq!(pack(&mut encoder, dst.slice(), flag(case[2]), flag(case[3])), expected, "{case:?}");
+    let mut encoder = BitmapStreamEncoder::new(number(sides[0]), number(sides[1]));
+    let mut dst = Guarded::filled(0xEE, number(form[2]));
+    assert_eq!(pack(&mut encoder, dst.slice(), flag(form[0]), flag(form[1])), expected, "{case:?}");
     assert_eq!(dst.after(), hex(after), "{case:?}");
 }
 
@@ -172,7 +241,8 @@ fn channels_packed() {
     for file in ["channels-pack.txt", "examples-channels.txt", "refusals-channels.txt"] {
         for_each_case("encode_vectors", file, |case| {
             let [r, g, b, a] = channels(&case[9..13]);
-            check_packed(case, encoded(&case[5..9]), case[13], |encoder, dst, rle, alpha| match alpha {
+            let fields = (case, &case[..2], &case[2..5]);
+            check_packed(fields, encoded(&case[5..9]), case[13], |encoder, dst, rle, alpha| match alpha {
                 true => encoder.encode_channels_body_alpha((r, g, b, a), dst, rle),
                 false => encoder.encode_channels_body((r, g, b), dst, rle),
             });
@@ -186,7 +256,8 @@ fn channels_packed_to_streams() {
     for file in ["stream-channels-pack.txt", "examples-stream-channels.txt", "refusals-stream-channels.txt"] {
         for_each_case("encode_vectors", file, |case| {
             let [r, g, b, a] = channels(&case[6..10]);
-            check_packed(case, answer(case[5]), case[10], |encoder, dst, rle, alpha| match alpha {
+            let fields = (case, &case[..2], &case[2..5]);
+            check_packed(fields, answer(case[5]), case[10], |encoder, dst, rle, alpha| match alpha {
                 true => encoder.encode_channels_stream_alpha((r, g, b, a), dst, rle),
                 false => encoder.encode_channels_stream((r, g, b), dst, rle),
             });
@@ -194,29 +265,33 @@ fn channels_packed_to_streams() {
     }
 }
 
-/// WIDTH HEIGHT RLE ALPHA ROOM ANSWER SENTRLE SENTALPHA SENTDEFINITION PIXELS AFTER
+/// WIDTH HEIGHT LAYOUT RLE ALPHA ROOM ANSWER SENTRLE SENTALPHA SENTDEFINITION PIXELS AFTER
 #[test]
 fn pixels_packed() {
     for file in ["bitmap-pack.txt", "examples-bitmap.txt", "refusals-bitmap.txt"] {
         for_each_case("encode_vectors", file, |case| {
-            let pixels = hex(case[9]);
-            check_packed(case, encoded(&case[5..9]), case[10], |encoder, dst, rle, alpha| match alpha {
-                true => encoder.encode_bitmap_body_alpha::<BgrAChannels>(&pixels, dst, rle),
-                false => encoder.encode_bitmap_body::<BgrAChannels>(&pixels, dst, rle),
+            let (pixels, fields) = (hex(case[10]), (case, &case[..2], &case[3..6]));
+            check_packed(fields, encoded(&case[6..10]), case[11], |encoder, dst, rle, alpha| {
+                with_layout!(case[2], L => match alpha {
+                    true => encoder.encode_bitmap_body_alpha::<L>(&pixels, dst, rle),
+                    false => encoder.encode_bitmap_body::<L>(&pixels, dst, rle),
+                })
             });
         });
     }
 }
 
-/// WIDTH HEIGHT RLE ALPHA ROOM ANSWER PIXELS AFTER
+/// WIDTH HEIGHT LAYOUT RLE ALPHA ROOM ANSWER PIXELS AFTER
 #[test]
 fn pixels_packed_to_streams() {
     for file in ["stream-bitmap-pack.txt", "examples-stream-bitmap.txt", "refusals-stream-bitmap.txt"] {
         for_each_case("encode_vectors", file, |case| {
-            let pixels = hex(case[6]);
-            check_packed(case, answer(case[5]), case[7], |encoder, dst, rle, alpha| match alpha {
-                true => encoder.encode_bitmap_alpha::<BgrAChannels>(&pixels, dst, rle),
-                false => encoder.encode_bitmap::<BgrAChannels>(&pixels, dst, rle),
+            let (pixels, fields) = (hex(case[7]), (case, &case[..2], &case[3..6]));
+            check_packed(fields, answer(case[6]), case[8], |encoder, dst, rle, alpha| {
+                with_layout!(case[2], L => match alpha {
+                    true => encoder.encode_bitmap_alpha::<L>(&pixels, dst, rle),
+                    false => encoder.encode_bitmap::<L>(&pixels, dst, rle),
+                })
             });
         });
     }

@@ -2,10 +2,11 @@
 
 use comparer::encoding::given::pixels;
 use comparer::encoding::Sources;
+use comparer::layout::BGRA;
 use comparer::picture::{Form, Planes};
 use comparer::planes::longest_packing;
 use comparer::stream::header::joined;
-use comparer::Extent;
+use comparer::{Extent, Format};
 use original::{Answer, Encoded};
 use std::hint::black_box;
 
@@ -89,7 +90,7 @@ impl Entry {
                 joined(form, 0, &planes.body(form, side, side), 0).expect("a form that has a header byte")
             }
             Entry::PackChannels { .. } => planes.colours.concat(),
-            Entry::PackPixels { .. } => match pixels(planes) {
+            Entry::PackPixels { .. } => match pixels(planes, BGRA) {
                 Sources::Pixels { pixels, .. } => pixels,
                 Sources::Channels { .. } => unreachable!("pixels"),
             },
@@ -105,7 +106,7 @@ impl Entry {
             Entry::PackPixels { .. } | Entry::PackChannels { .. } => 2 + 3 * longest_packing(side, side),
         };
         let work = match self {
-            Entry::Unpack(form, _) => form.work_len(side, side),
+            Entry::Unpack(form, _) => form.work_len(Format::Rgb24, side, side),
             _ => 0,
         };
         Buffers { work: vec![0; work], out: vec![0; room] }
@@ -142,7 +143,7 @@ impl Entry {
                 original::stream_decode(source, work, out, side, side)
             }
             Entry::PackPixels { rle, extent } => {
-                packed(extent, original::encode_bitmap(source, false, out, rle, side, side))
+                packed(extent, original::encode_bitmap(original::Layout::BgrA, source, false, out, rle, side, side))
             }
             Entry::PackChannels { rle, extent } => {
                 packed(extent, original::encode_channels(thirds(source), None, out, rle, side, side))
@@ -160,10 +161,12 @@ impl Entry {
             Entry::PackPlane => ours::pack(source, out, side, side),
             Entry::Unpack(Form { rle, alpha, definition, level, subsampled }, Extent::Body) => {
                 let form = ours::Form { rle, alpha, definition, level, subsampled };
-                ours::decode(form, source, work, out, side, side)
+                ours::decode(Format::Rgb24, form, source, work, out, side, side)
             }
-            Entry::Unpack(_, Extent::Stream) => ours::stream_decode(source, work, out, side, side),
-            Entry::PackPixels { rle, extent } => ours::encode_bitmap(extent, source, false, out, rle, side, side),
+            Entry::Unpack(_, Extent::Stream) => ours::stream_decode(Format::Rgb24, source, work, out, side, side),
+            Entry::PackPixels { rle, extent } => {
+                ours::encode_bitmap(extent, (source, BGRA), false, out, rle, side, side)
+            }
             Entry::PackChannels { rle, extent } => {
                 ours::encode_channels(extent, thirds(source), None, out, rle, side, side)
             }

@@ -1,4 +1,4 @@
-//! The planes of the pictures that are measured: three kinds, at any side that is a power of two.
+//! The planes of the pictures that are measured: three kinds, at any side.
 
 use comparer::picture::{Form, Planes};
 use comparer::planes::flat_page;
@@ -37,7 +37,7 @@ impl Kind {
     }
 
     /// Different drawings side by side as a sheet, divided into pictures of this side. So pictures of every side have the same content
-    /// in total. Each has three different planes.
+    /// in total, but for what a side leaves as a remainder. Each has three different planes, and an alpha plane if the form has one.
     pub fn pictures(self, form: Form, sheet_side: usize, side: usize) -> Vec<Planes> {
         let rng = &mut Rng::new(1024);
         let chroma = |side| form.chroma_sides(side, side).0;
@@ -47,8 +47,9 @@ impl Kind {
         };
         let first = plane(0, DRAWN, sheet_side, side);
         let [second, third] = [1, 2].map(|slope| plane(slope, chroma(DRAWN), chroma(sheet_side), chroma(side)));
+        let mut alpha = if form.alpha { plane(0, DRAWN, sheet_side, side) } else { Vec::new() }.into_iter();
         let colours = first.into_iter().zip(second).zip(third).map(|((first, second), third)| [first, second, third]);
-        colours.map(|colours| Planes { alpha: None, colours }).collect()
+        colours.map(|colours| Planes { alpha: alpha.next(), colours }).collect()
     }
 }
 
@@ -64,9 +65,9 @@ fn laid_out(mut drawing: impl FnMut() -> Vec<u8>, drawn: usize, sheet_side: usiz
     sheet
 }
 
-/// The squares of this side that a sheet has.
+/// The complete squares of this side that a sheet has.
 fn squares(sheet: &[u8], sheet_side: usize, side: usize) -> Vec<Vec<u8>> {
-    let starts = || (0..sheet_side).step_by(side);
+    let starts = || (0..sheet_side / side).map(|at| at * side);
     let corners = starts().flat_map(|top| starts().map(move |left| (top, left)));
     let square = |(top, left): (usize, usize)| {
         let rows: Vec<&[u8]> = (top..top + side).map(|y| &sheet[y * sheet_side + left..][..side]).collect();

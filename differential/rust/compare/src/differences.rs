@@ -3,14 +3,14 @@
 use comparer::arguments::refused;
 use comparer::bytes;
 use comparer::case::Operation;
-use comparer::check::answer_text;
+use comparer::check::{answer_text, After};
 use comparer::encoding::{Encoding, OwnedEncoding, Sources};
 use comparer::extent::Extent;
 use comparer::picture::{OwnedPicture, Sizes};
 use comparer::prefix::{Plane, PrefixCase};
 use comparer::report::shortened;
 use comparer::stream::{OwnedStream, OwnedStreamSize};
-use comparer::{Case, Input, Owned};
+use comparer::{Case, Comparer, Format, Input, Owned};
 use original::{Answer, Header};
 use std::process::ExitCode;
 
@@ -124,8 +124,8 @@ const ENCODING: [Place; 10] = [
             "pc 0 1 1 - - - none -",
             "pc 0 1 0 - - - none EE",
             "pc 0 1 0 - - - none -",
-            "pb 0 1 1 0 - -",
-            "pb 0 1 0 0 - EE",
+            "pb 0 1 bgra 1 0 - -",
+            "pb 0 1 bgra 0 0 - EE",
         ],
     ),
     (
@@ -135,7 +135,7 @@ const ENCODING: [Place; 10] = [
             "pc 1 0 1 01 02 03 none EE*6",
             "pc 1 0 0 01 02 03 none EE*4",
             "pc 1 0 0 01 02 03 none EE",
-            "pb 1 0 0 1 01020304 EE*5",
+            "pb 1 0 bgra 0 1 01020304 EE*5",
         ],
     ),
     (
@@ -145,7 +145,7 @@ const ENCODING: [Place; 10] = [
             "pc 1 8193 1 - - - none -",
             "pc 8193 1 1 05*8193 05*8193 05*8193 none EE*528",
             "pc 8193 1 0 05*8193 05*8193 05*8193 none EE*24580",
-            "pb 1 8193 0 0 05*32772 EE*24580",
+            "pb 1 8193 bgra 0 0 05*32772 EE*24580",
             "pc 4294967296 4294967296 0 - - - none EE",
             "pc 4294967296 4294967296 0 - - - - EE",
             "pc 18446744073709551615 1 0 - - - none EE",
@@ -157,7 +157,7 @@ const ENCODING: [Place; 10] = [
         &[
             "pc 2 1 1 05 0505 0505 none EE*8",
             "iu 2 1 1 0 argb 1005200505200505 EE*6 EE*6",
-            "pb 2 1 1 0 01020304 EE*6",
+            "pb 2 1 bgra 1 0 01020304 EE*6",
             "iu 2 1 1 0 argb 100310021001 EE*6 EE*6",
             "pc 2 1 1 02 0304 0506 01 EE*10",
             "iu 2 1 1 0 argb 10011002200304200506 EE*6 EE*6",
@@ -169,7 +169,7 @@ const ENCODING: [Place; 10] = [
             "pc 1 1 1 - 02 03 none -",
             "pc 1 1 1 01 02 - none EE*4",
             "pc 1 2 1 01 0202 0303 none EE*12",
-            "pb 1 1 1 0 010203 -",
+            "pb 1 1 bgra 1 0 010203 -",
         ],
     ),
     (
@@ -182,7 +182,7 @@ const ENCODING: [Place; 10] = [
             "pc 1 1 0 - 02 03 none EE*4",
             "pc 1 1 0 - - - none EE*4",
             "pc 1 1 0 01 02 03 - EE*5",
-            "pb 1 1 0 0 010203 EE*4",
+            "pb 1 1 bgra 0 0 010203 EE*4",
             "pc 1 1 0 - 02 03 none EE*3",
         ],
     ),
@@ -192,15 +192,19 @@ const ENCODING: [Place; 10] = [
     ),
     (
         "raw, long sources, with room",
-        &["pc 1 1 0 0101 02 03 none EE*5", "pc 2 1 0 010203 0405 0607 none EE*8", "pb 1 1 0 0 0102030405060708 EE*7"],
+        &[
+            "pc 1 1 0 0101 02 03 none EE*5",
+            "pc 2 1 0 010203 0405 0607 none EE*8",
+            "pb 1 1 bgra 0 0 0102030405060708 EE*7",
+        ],
     ),
     (
         "raw, long sources, without room for all of it",
         &[
             "pc 1 1 0 0101 02 03 none EE*4",
             "pc 1 1 0 010101 02 03 none EE*4",
-            "pb 1 1 0 0 0102030405060708 EE*4",
-            "pb 1 1 0 1 0102030405060708 EE*5",
+            "pb 1 1 bgra 0 0 0102030405060708 EE*4",
+            "pb 1 1 bgra 0 1 0102030405060708 EE*5",
             "pc 1 1 0 0101 02 03 none EE*3",
         ],
     ),
@@ -208,18 +212,22 @@ const ENCODING: [Place; 10] = [
 
 /// The same of packing: which samples are used, and what is in the header.
 const ENCODING_ALIKE: [Place; 4] = [
-    ("RLE, long sources", &["pc 2 1 1 010203 040506 070809 none EE*9", "pb 1 1 1 0 0102030405060708 EE*6"]),
+    ("RLE, long sources", &["pc 2 1 1 010203 040506 070809 none EE*9", "pb 1 1 bgra 1 0 0102030405060708 EE*6"]),
     (
         "bytes behind the last complete pixel",
-        &["pb 1 1 0 0 01020304AABBCC EE*4", "pb 2 1 0 1 0102030405060708AABBCC EE*9", "pb 1 1 1 1 01020304AA EE*8"],
+        &[
+            "pb 1 1 bgra 0 0 01020304AABBCC EE*4",
+            "pb 2 1 bgra 0 1 0102030405060708AABBCC EE*9",
+            "pb 1 1 bgra 1 1 01020304AA EE*8",
+        ],
     ),
     (
         "the header of four planes, and what the decoder makes of them with alpha false and true",
         &[
-            "pb 1 1 0 1 01020304 EE*5",
+            "pb 1 1 bgra 0 1 01020304 EE*5",
             "iu 1 1 0 0 argb 0403020100 - EE*3",
             "iu 1 1 0 1 argb 0403020100 - EE*3",
-            "pb 1 1 1 1 01020304 EE*8",
+            "pb 1 1 bgra 1 1 01020304 EE*8",
             "iu 1 1 1 0 argb 1004100310021001 EE*3 EE*3",
             "iu 1 1 1 1 argb 1004100310021001 EE*3 EE*3",
             "pc 1 1 0 03 02 01 04 EE*5",
@@ -228,7 +236,12 @@ const ENCODING_ALIKE: [Place; 4] = [
     ),
     (
         "the header of a refusal",
-        &["pb 1 1 0 0 01020304 -", "pb 1 1 1 0 01020304 -", "pb 1 1 0 0 01020304 EE*3", "pb 1 1 1 0 01020304 EE*5"],
+        &[
+            "pb 1 1 bgra 0 0 01020304 -",
+            "pb 1 1 bgra 1 0 01020304 -",
+            "pb 1 1 bgra 0 0 01020304 EE*3",
+            "pb 1 1 bgra 1 0 01020304 EE*5",
+        ],
     ),
 ];
 
@@ -260,15 +273,15 @@ const STREAMS: [Place; 5] = [
     (
         "packing is refused: IronRDP has already written the header byte",
         &[
-            "sb 1 1 0 0 01020304 EE",
-            "sb 1 1 1 0 01020304 EE",
-            "sb 1 1 0 0 01020304 EE*4",
-            "sb 1 1 1 0 01020304 EE*6",
+            "sb 1 1 bgra 0 0 01020304 EE",
+            "sb 1 1 bgra 1 0 01020304 EE",
+            "sb 1 1 bgra 0 0 01020304 EE*4",
+            "sb 1 1 bgra 1 0 01020304 EE*6",
             "sc 1 1 1 03 02 01 04 EE*4",
             "sc 1 1 1 03 - 01 none EE*7",
         ],
     ),
-    ("a source is short, and the destination is empty", &["sc 1 1 1 - 02 03 none -", "sb 1 1 0 0 010203 -"]),
+    ("a source is short, and the destination is empty", &["sc 1 1 1 - 02 03 none -", "sb 1 1 bgra 0 0 010203 -"]),
     (
         "the stream lacks its header byte or its pad byte, which the parser refuses",
         &["su 1 1 - - EE*3", "su 0 1 - - EE*3", "su 1 1 20 - EE*3", "su 9000 1 20 - EE*3"],
@@ -276,10 +289,10 @@ const STREAMS: [Place; 5] = [
     (
         "four planes: the header byte has the alpha flag false, and what the decoder makes of them",
         &[
-            "sb 1 1 0 1 01020304 EE*6",
+            "sb 1 1 bgra 0 1 01020304 EE*6",
             "su 1 1 200403020100 - EE*3",
             "su 1 1 000403020100 - EE*3",
-            "sb 1 1 1 1 01020304 EE*9",
+            "sb 1 1 bgra 1 1 01020304 EE*9",
             "su 1 1 301004100310021001 EE*3 EE*3",
             "su 1 1 101004100310021001 EE*3 EE*3",
         ],
@@ -287,13 +300,55 @@ const STREAMS: [Place; 5] = [
     (
         "inside the domain, where both do the same",
         &[
-            "sb 1 1 0 0 01020304 EE*5",
-            "sb 1 1 1 0 01020304 EE*7",
-            "sb 1 1 0 0 01020304 -",
+            "sb 1 1 bgra 0 0 01020304 EE*5",
+            "sb 1 1 bgra 1 0 01020304 EE*7",
+            "sb 1 1 bgra 0 0 01020304 -",
             "su 1 1 2003020100 - EE*3",
             "su 1 1 30100310021001 EE*3 EE*3",
             "su 1 1 2000 - EE*3",
         ],
+    ),
+];
+
+/// Four-byte pixels: IronRDP unpacks none, and packs each of the four layouts.
+const PIXELS: [Place; 5] = [
+    (
+        "packing from the other layouts, where both do the same",
+        &["pb 1 1 rgba 0 1 03020104 EE*5", "pb 1 1 argb 0 1 04030201 EE*5", "pb 1 1 abgr 0 1 04010203 EE*5"],
+    ),
+    (
+        "a layout that there is not",
+        &[
+            "pb 1 1 4 0 0 01020304 EE*4",
+            "pb 1 1 256 0 0 - -",
+            "sb 1 1 257 1 1 01020304 EE*9",
+            "xu 1 1 0 0 argb 4 010203 - EE*4",
+            "xu 1 1 1 0 0:0 256 - - -",
+            "xs 1 1 4294967295 2001020300 - EE*4",
+            "xs 0 1 4 - - -",
+        ],
+    ),
+    (
+        "unpacking to each layout, with alpha and without",
+        &[
+            "xu 1 1 0 1 argb bgra 04010203 - EE*4",
+            "xu 1 1 0 1 argb rgba 04010203 - EE*4",
+            "xu 1 1 0 1 argb argb 04010203 - EE*4",
+            "xu 1 1 0 1 argb abgr 04010203 - EE*4",
+            "xs 1 1 bgra 2001020300 - EE*4",
+        ],
+    ),
+    (
+        "alpha stays behind the colour planes, also where one of these is refused",
+        &[
+            "xu 1 1 1 1 argb bgra 1004100110021003 EE*4 EE*4",
+            "xu 1 1 1 1 argb bgra 10041001100200 EE*4 EE*4",
+            "xu 2 1 1 1 argb bgra 10070000 EE*8 EE*8",
+        ],
+    ),
+    (
+        "the work area or the image has what three bytes a pixel need",
+        &["xu 1 1 1 1 argb bgra 1004100110021003 EE*3 EE*4", "xu 1 1 0 0 argb bgra 010203 - EE*3"],
     ),
 ];
 
@@ -313,6 +368,8 @@ pub fn print_all() -> ExitCode {
     ENCODING_ALIKE.iter().for_each(print_place);
     println!("streams");
     STREAMS.iter().for_each(print_place);
+    println!("four-byte pixels");
+    PIXELS.iter().for_each(print_place);
     ExitCode::SUCCESS
 }
 
@@ -369,12 +426,16 @@ fn print_both(case: &Owned) {
 
 /// IronRDP gets the work area as it is, and an empty image, to which it appends.
 fn print_picture(case: &OwnedPicture) {
-    let OwnedPicture { width, height, form, .. } = *case;
+    let OwnedPicture { width, height, form, format, .. } = *case;
     println!("  {case}");
-    let (mut work, mut image) = (case.work.clone(), Vec::new());
-    match case.view().by_ironrdp(&mut work, &mut image) {
-        Some(answer) => print_made(&answer, &work, &image),
-        None => println!("    IronRDP: its header has no such definition or level"),
+    if format == Format::Rgb24 {
+        let (mut work, mut image) = (case.work.clone(), Vec::new());
+        match case.view().by_ironrdp(&mut work, &mut image) {
+            Some(answer) => print_made(&answer, &work, &image),
+            None => println!("    IronRDP: its header has no such definition or level"),
+        }
+    } else {
+        print_required(&Input::Picture(case.clone()));
     }
     let (mut work, mut image) = (case.work.clone(), case.image.clone());
     let form = ours::Form {
@@ -384,19 +445,34 @@ fn print_picture(case: &OwnedPicture) {
         level: form.level,
         subsampled: form.subsampled,
     };
-    let answer = ours::decode(form, &case.body, &mut work, &mut image, width, height);
+    let answer = ours::decode(format, form, &case.body, &mut work, &mut image, width, height);
     print_image(answer, &work, &image);
 }
 
 /// The same.
 fn print_stream(case: &OwnedStream) {
     println!("  {case}");
-    let (mut work, mut image) = (case.work.clone(), Vec::new());
-    let answer = case.view().by_ironrdp(&mut work, &mut image);
-    print_made(&answer, &work, &image);
+    if case.format == Format::Rgb24 {
+        let (mut work, mut image) = (case.work.clone(), Vec::new());
+        let answer = case.view().by_ironrdp(&mut work, &mut image);
+        print_made(&answer, &work, &image);
+    } else {
+        print_required(&Input::Stream(case.clone()));
+    }
     let (mut work, mut image) = (case.work.clone(), case.image.clone());
-    let answer = ours::stream_decode(&case.stream, &mut work, &mut image, case.width, case.height);
+    let answer = ours::stream_decode(case.format, &case.stream, &mut work, &mut image, case.width, case.height);
     print_image(answer, &work, &image);
+}
+
+/// What is required of four-byte pixels, which IronRDP has no function for.
+fn print_required(case: &Input) {
+    match Comparer::new(ours::LIBRARY).wanted(case) {
+        Ok((answer, After(after))) => {
+            let texts: Vec<_> = after.iter().map(|(name, after)| format!("{name} {}", bytes::text(after))).collect();
+            println!("    {}: {answer}, {}", case.reference(), texts.join(", "));
+        }
+        Err(difference) => println!("    {difference}"),
+    }
 }
 
 fn print_made(answer: &Answer, work: &[u8], image: &[u8]) {
@@ -410,19 +486,13 @@ fn print_image(answer: i64, work: &[u8], image: &[u8]) {
 fn print_stream_size(case: &OwnedStreamSize) {
     println!("  {case}");
     println!("    by formula: work area {}", case.view().work());
-    println!("    rdp6: work area {}", ours::stream_work_size(&case.stream, case.width, case.height));
+    println!("    rdp6: work area {}", ours::stream_work_size(case.four_bytes, &case.stream, case.width, case.height));
 }
 
 fn print_sizes(case: &Sizes) {
     println!("  {case}");
     println!("    by formula: work area {}, image {}", case.work(), case.image());
-    // SAFETY: no pointer is passed.
-    let (work, image) = unsafe {
-        (
-            ours::rdp6_work_size(case.rle, case.definition, case.subsampled, case.width, case.height),
-            ours::rdp6_image_size(case.width, case.height),
-        )
-    };
+    let (work, image) = ours::LIBRARY.pictures.sizes(case);
     println!("    rdp6: work area {work}, image {image}");
 }
 
@@ -432,16 +502,22 @@ fn print_encoding(case: &OwnedEncoding) {
     println!("  {case}");
     let mut after = Vec::new();
     case.view().fill_destination(&mut after);
-    let encoded = case.view().by_ironrdp(&mut after);
-    let header = encoded.header.map_or("no header".to_owned(), header_text);
-    let (answer, after) = (case.view().answer(encoded), bytes::text(&after[case.bytes_before()..]));
-    let behind = if extent == Extent::Body { " behind it" } else { "" };
-    println!("    IronRDP: {answer}, {header}, destination{behind} {after}");
+    match case.view().by_ironrdp(&mut after) {
+        Some(encoded) => {
+            let header = encoded.header.map_or("no header".to_owned(), header_text);
+            let (answer, after) = (case.view().answer(encoded), bytes::text(&after[case.bytes_before()..]));
+            let behind = if extent == Extent::Body { " behind it" } else { "" };
+            println!("    IronRDP: {answer}, {header}, destination{behind} {after}");
+        }
+        None => println!("    IronRDP: it has no such layout"),
+    }
     let mut after = case.before.clone();
     let dst = &mut after[..];
     let answer = match case.sources.view() {
         Sources::Channels { colours, alpha } => ours::encode_channels(extent, colours, alpha, dst, rle, width, height),
-        Sources::Pixels { pixels, alpha } => ours::encode_bitmap(extent, pixels, alpha, dst, rle, width, height),
+        Sources::Pixels { pixels, layout, alpha } => {
+            ours::encode_bitmap(extent, (pixels, layout), alpha, dst, rle, width, height)
+        }
     };
     println!("    rdp6: {}, destination {}", answer_text(answer), bytes::text(&after));
 }

@@ -26,11 +26,16 @@ A CASE is one of
                                                     AYCoCg, or DEFINITION:LEVEL:SUBSAMPLED
   'is WIDTH HEIGHT RLE DEFINITION SUBSAMPLED'       the sizes of a picture's work area and image
   'pc WIDTH HEIGHT RLE R G B A DST'                 packs a picture from channels; A is none for three planes
-  'pb WIDTH HEIGHT RLE ALPHA PIXELS DST'            packs a picture from pixels
+  'pb WIDTH HEIGHT LAYOUT RLE ALPHA PIXELS DST'     packs a picture from pixels; LAYOUT is bgra, rgba, argb, abgr or an unknown number
   'su WIDTH HEIGHT STREAM WORK IMAGE'               unpacks a stream
   'ss WIDTH HEIGHT STREAM'                          the size of a stream's work area
   'sc WIDTH HEIGHT RLE R G B A DST'                 packs a stream from channels
-  'sb WIDTH HEIGHT RLE ALPHA PIXELS DST'            packs a stream from pixels
+  'sb WIDTH HEIGHT LAYOUT RLE ALPHA PIXELS DST'     packs a stream from pixels
+  'xu WIDTH HEIGHT RLE ALPHA DEF LAYOUT BODY WORK IMAGE'
+                                                    unpacks a picture to four-byte pixels
+  'xw WIDTH HEIGHT RLE ALPHA DEFINITION SUBSAMPLED' the sizes of its work area and image
+  'xs WIDTH HEIGHT LAYOUT STREAM WORK IMAGE'        unpacks a stream to four-byte pixels
+  'xz WIDTH HEIGHT STREAM'                          the size of its work area
   'px WIDTH HEIGHT SAMPLES M FOLLOWING DST'         packs a plane, then unpacks the first M bytes and, if M is all, FOLLOWING behind them
 Bytes are hexadecimal; HH*N stands for N times HH, with a comma behind it if more bytes follow; - stands for none.";
 
@@ -71,6 +76,7 @@ fn compare(seconds: u64, seed: u64) -> ExitCode {
         "stream unpacking: IronRDP's decode_bitmap_stream_to_rgb24 with our parser of the header, rdp6_stream_decode"
     );
     println!("stream packing: IronRDP's BitmapStreamEncoder, the four functions rdp6_stream_encode_..");
+    println!("four-byte pixels: the same three bytes and IronRDP's alpha plane, rdp6_decode_pixels, rdp6_stream_decode_pixels");
     println!("{seconds} seconds, seed {seed}; each case is called twice, its buffers at either end of guarded pages");
     let mut comparer = Comparer::new(LIBRARY);
     let outcome = all_cases(&mut comparer, Duration::from_secs(seconds), seed);
@@ -96,6 +102,8 @@ fn all_cases(comparer: &mut Comparer, time: Duration, seed: u64) -> Outcome {
     let mut encoding = encoding::random::Random::new(seed, Extent::Body);
     let mut streams = stream::random::Random::new(seed);
     let mut stream_encoding = encoding::random::Random::new(seed, Extent::Stream);
+    let mut pixels = picture::random::Random::pixels(seed, Extent::Body);
+    let mut stream_pixels = stream::random::Random::pixels(seed);
     let mut prefixes = prefix::random::Random::new(seed);
     let mut kinds: [Random<'_>; KINDS] = [
         ("unpacking", &mut |comparer| unpacking.round(comparer)),
@@ -104,13 +112,15 @@ fn all_cases(comparer: &mut Comparer, time: Duration, seed: u64) -> Outcome {
         ("picture packing", &mut |comparer| encoding.round(comparer)),
         ("streams", &mut |comparer| streams.round(comparer)),
         ("stream packing", &mut |comparer| stream_encoding.round(comparer)),
+        ("four-byte pictures", &mut |comparer| pixels.round(comparer)),
+        ("four-byte streams", &mut |comparer| stream_pixels.round(comparer)),
         ("the prefix theorem", &mut |comparer| prefixes.round(comparer)),
     ];
     random_cases(comparer, &mut kinds, end)
 }
 
 /// How many kinds of random cases there are.
-const KINDS: usize = 7;
+const KINDS: usize = 9;
 
 /// A kind of random cases: its name, and a round of it.
 type Random<'a> = (&'static str, &'a mut dyn FnMut(&mut Comparer) -> Outcome);
@@ -143,13 +153,15 @@ fn random_cases(comparer: &mut Comparer, kinds: &mut [Random<'_>; KINDS], end: I
 /// The parts that are the same every time, with the seconds that they take.
 fn fixed_cases(comparer: &mut Comparer) -> Outcome {
     type Part = fn(&mut Comparer) -> Outcome;
-    let parts: [(&str, Part); 7] = [
+    let parts: [(&str, Part); 9] = [
         ("unpacking", unpacking::fixed::run),
         ("packing", packing::fixed::run),
         ("pictures", picture::fixed::run),
         ("picture packing", encoding::fixed::run),
         ("streams", stream::fixed::run),
         ("stream packing", encoding::fixed::run_streams),
+        ("four-byte pictures", picture::fixed::run_pixels),
+        ("four-byte streams", stream::fixed::run_pixels),
         ("the prefix theorem", prefix::fixed::run),
     ];
     for (name, run) in parts {

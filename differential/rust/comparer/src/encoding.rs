@@ -6,6 +6,7 @@ pub mod check;
 pub mod examples;
 pub mod fixed;
 pub mod given;
+pub mod layouts;
 pub mod random;
 pub mod refused;
 pub mod round_trip;

@@ -43,7 +43,7 @@ impl View<'_> {
 }
 
 impl Input {
-    /// Reads a case that begins with `pu`, `pp`, `iu`, `is`, `su`, `ss`, `pc`, `pb`, `sc`, `sb` or `px`.
+    /// Reads a case that begins with `pu`, `pp`, `iu`, `is`, `su`, `ss`, `xu`, `xw`, `xs`, `xz`, `pc`, `pb`, `sc`, `sb` or `px`.
     pub fn parse(text: &str) -> Option<Input> {
         Owned::parse(text)
             .map(Input::Call)
@@ -89,7 +89,14 @@ impl Input {
             Input::Encoding(case) => case.is_inside(),
             Input::Prefix(_) => return "the model",
         };
-        if inside {
+        let four_bytes = match self {
+            Input::Picture(case) => case.format.keeps_alpha(),
+            Input::Stream(case) => case.format.keeps_alpha(),
+            _ => false,
+        };
+        if inside && four_bytes {
+            "IronRDP's three bytes and its alpha plane"
+        } else if inside {
             "IronRDP"
         } else {
             "FORMAT"

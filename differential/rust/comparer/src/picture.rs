@@ -5,6 +5,7 @@ pub mod check;
 pub mod colours;
 pub mod examples;
 pub mod fixed;
+pub mod pixels;
 pub mod planes;
 pub mod random;
 pub mod refused;

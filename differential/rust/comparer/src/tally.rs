@@ -1,6 +1,7 @@
 //! How many cases of each kind were compared, and the answers that were required.
 
 use crate::extent::Extent;
+use crate::layout::Format;
 use original::Answer;
 use std::fmt;
 
@@ -32,6 +33,30 @@ impl Reference {
             Reference::IronRdp
         } else {
             Reference::Format
+        }
+    }
+}
+
+/// Which cases are counted together.
+#[derive(Clone, Copy, Debug, PartialEq, Eq)]
+pub enum Group {
+    /// Bodies that are unpacked to three bytes a pixel, or packed; planes and the prefix theorem.
+    Bodies,
+    /// Streams that are unpacked to three bytes a pixel, or packed.
+    Streams,
+    /// Bodies that are unpacked to four-byte pixels.
+    Pixels,
+    /// Streams that are.
+    StreamPixels,
+}
+
+impl Group {
+    pub fn of(extent: Extent, format: Format) -> Group {
+        match (extent, format) {
+            (Extent::Body, Format::Rgb24) => Group::Bodies,
+            (Extent::Stream, Format::Rgb24) => Group::Streams,
+            (Extent::Body, Format::Pixels(_)) => Group::Pixels,
+            (Extent::Stream, Format::Pixels(_)) => Group::StreamPixels,
         }
     }
 }
@@ -70,6 +95,7 @@ pub enum Kind {
     PictureExamples,
     PictureTable,
     PictureLevels,
+    PictureLayouts,
     PictureSides,
     PictureWidths,
     PictureLengths,
@@ -102,6 +128,7 @@ pub enum Kind {
     EncodingRooms,
     EncodingBlocks,
     EncodingPlaces,
+    EncodingLayouts,
     EncodingLongSides,
     EncodingLargest,
     RandomEncodings,
@@ -114,7 +141,7 @@ pub enum Kind {
 }
 
 /// Each kind with its part and its line of the report, in the order of the enum.
-const KINDS: [(Kind, Part, &str); 72] = [
+const KINDS: [(Kind, Part, &str); 74] = [
     (Kind::Short, Part::Unpacking, "all bodies of up to 2 bytes"),
     (Kind::Alphabet, Part::Unpacking, "bodies of 3 to 5 bytes, all forms of control bytes"),
     (Kind::Rooms, Part::Unpacking, "every destination length around width x height"),
@@ -146,8 +173,9 @@ const KINDS: [(Kind, Part, &str); 72] = [
     (Kind::PictureExamples, Part::Pictures, "the examples of FORMAT 10 and the like"),
     (Kind::PictureTable, Part::Pictures, "a table of sides, most of them refused"),
     (Kind::PictureLevels, Part::Pictures, "all loss levels, all definitions"),
+    (Kind::PictureLayouts, Part::Pictures, "all layouts, those that there are and others"),
     (Kind::PictureSides, Part::Pictures, "all sides of 1 to 9, all forms"),
-    (Kind::PictureWidths, Part::Pictures, "all widths of 10 to 100"),
+    (Kind::PictureWidths, Part::Pictures, "all widths of 10 to 100; about 256 and 8192"),
     (Kind::PictureLengths, Part::Pictures, "body, work area, image around their limits"),
     (Kind::PictureOrder, Part::Pictures, "several refusals at once"),
     (Kind::PictureTruncated, Part::Pictures, "small RLE pictures, every prefix"),
@@ -178,6 +206,7 @@ const KINDS: [(Kind, Part, &str); 72] = [
     (Kind::EncodingRooms, Part::Encoding, "destinations around every segment's end"),
     (Kind::EncodingBlocks, Part::Encoding, "rows of about 64, 128, 256 and 8192 pixels"),
     (Kind::EncodingPlaces, Part::Encoding, "runs at the ends of rows, other ones in each channel"),
+    (Kind::EncodingLayouts, Part::Encoding, "the layouts of pixels, those that there are and others"),
     (Kind::EncodingLongSides, Part::Encoding, "sides of 8191 and 8192"),
     (Kind::EncodingLargest, Part::Encoding, "pictures of 8192 x 8192"),
     (Kind::RandomEncodings, Part::Encoding, "random pictures"),
@@ -252,7 +281,7 @@ impl Answers {
     }
 }
 
-/// The cases of one extent. Those of planes and of the prefix theorem are counted with the bodies.
+/// The cases of one group.
 #[derive(Clone)]
 struct Counts {
     kinds: [u64; KINDS.len()],
@@ -269,8 +298,8 @@ impl Default for Counts {
 
 #[derive(Clone, Default)]
 pub struct Tally {
-    bodies: Counts,
-    streams: Counts,
+    /// By `Group`.
+    groups: [Counts; 4],
 }
 
 impl Counts {
@@ -296,16 +325,21 @@ impl Counts {
         Ok(())
     }
 
-    /// Unpacking and packing of pictures. `whose` names the extent; `outside` are the refusals of unpacking outside the domain.
-    fn write_pictures(&self, f: &mut fmt::Formatter<'_>, whose: [&str; 2], outside: &[usize]) -> fmt::Result {
-        let [_, _, pictures, sizes, encoding, _] = &self.parts;
+    /// Unpacking of pictures. `whose` names the group; `outside` are the refusals outside the domain.
+    fn write_unpacked(&self, f: &mut fmt::Formatter<'_>, whose: [&str; 2], outside: &[usize]) -> fmt::Result {
+        let [_, _, pictures, sizes, _, _] = &self.parts;
         writeln!(f, "{} unpacking: {}", whose[0], pictures.all())?;
         self.write_kinds(f, Part::Pictures)?;
         pictures.write(f, "made", &[4, 7, 8, 9], outside)?;
-        writeln!(f, "{}, compared with formulas: {}", whose[1], sizes.all())?;
-        writeln!(f, "{} packing: {}", whose[0], encoding.all())?;
+        writeln!(f, "{}, compared with formulas: {}", whose[1], sizes.all())
+    }
+
+    /// Packing of pictures.
+    fn write_packed(&self, f: &mut fmt::Formatter<'_>, whose: &str) -> fmt::Result {
+        let [_, _, _, _, encoding, _] = &self.parts;
+        writeln!(f, "{whose} packing: {}", encoding.all())?;
         self.write_kinds(f, Part::Encoding)?;
-        encoding.write(f, "written", &[12], &[1, 2, 11, 12])?;
+        encoding.write(f, "written", &[12], &[1, 2, 3, 11, 12])?;
         writeln!(f, "  unpacked again by IronRDP: {}", self.unpacked_again)
     }
 }
@@ -313,41 +347,30 @@ impl Counts {
 impl Tally {
     /// Counts a case of a plane, of a body or of the prefix theorem.
     pub fn count(&mut self, kind: Kind, reference: Reference, wanted: &Answer) {
-        self.count_in(Extent::Body, kind, reference, wanted);
+        self.count_in(Group::Bodies, kind, reference, wanted);
     }
 
-    pub fn count_in(&mut self, extent: Extent, kind: Kind, reference: Reference, wanted: &Answer) {
-        self.counts(extent).count(kind, reference, wanted);
+    pub fn count_in(&mut self, group: Group, kind: Kind, reference: Reference, wanted: &Answer) {
+        self.groups[group as usize].count(kind, reference, wanted);
     }
 
-    pub fn count_unpacked_again(&mut self, extent: Extent) {
-        self.counts(extent).unpacked_again += 1;
-    }
-
-    fn counts(&mut self, extent: Extent) -> &mut Counts {
-        match extent {
-            Extent::Body => &mut self.bodies,
-            Extent::Stream => &mut self.streams,
-        }
+    pub fn count_unpacked_again(&mut self, group: Group) {
+        self.groups[group as usize].unpacked_again += 1;
     }
 
     pub fn total(&self) -> u64 {
-        self.bodies.kinds.iter().chain(&self.streams.kinds).sum()
+        self.groups.iter().flat_map(|counts| &counts.kinds).sum()
     }
 
     /// The answers that were required in this kind's part, in a line.
-    pub fn answers_line(&self, extent: Extent, kind: Kind) -> String {
-        let counts = match extent {
-            Extent::Body => &self.bodies,
-            Extent::Stream => &self.streams,
-        };
-        counts.parts[KINDS[kind as usize].1 as usize].line()
+    pub fn answers_line(&self, group: Group, kind: Kind) -> String {
+        self.groups[group as usize].parts[KINDS[kind as usize].1 as usize].line()
     }
 }
 
 impl fmt::Display for Tally {
     fn fmt(&self, f: &mut fmt::Formatter<'_>) -> fmt::Result {
-        let Tally { bodies, streams } = self;
+        let [bodies, streams, pixels, stream_pixels] = &self.groups;
         let [unpacking, packing, _, _, _, prefix] = &bodies.parts;
         writeln!(f, "plane unpacking: {}", unpacking.all())?;
         bodies.write_kinds(f, Part::Unpacking)?;
@@ -355,8 +378,14 @@ impl fmt::Display for Tally {
         writeln!(f, "plane packing: {}", packing.all())?;
         bodies.write_kinds(f, Part::Packing)?;
         packing.write(f, "written", &[12], &[1, 2, 11])?;
-        bodies.write_pictures(f, ["picture", "sizes of work area and image"], &[1, 2, 3, 4, 5, 6])?;
-        streams.write_pictures(f, ["stream", "sizes of a stream's work area"], &[1, 2, 4, 5, 6, 13, 14])?;
+        bodies.write_unpacked(f, ["picture", "sizes of work area and image"], &[1, 2, 3, 4, 5, 6])?;
+        bodies.write_packed(f, "picture")?;
+        streams.write_unpacked(f, ["stream", "sizes of a stream's work area"], &[1, 2, 4, 5, 6, 13, 14])?;
+        streams.write_packed(f, "stream")?;
+        let names = ["four-byte picture", "sizes of work area and image for four-byte pixels"];
+        pixels.write_unpacked(f, names, &[1, 2, 3, 4, 5, 6])?;
+        let names = ["four-byte stream", "sizes of a stream's work area for four-byte pixels"];
+        stream_pixels.write_unpacked(f, names, &[1, 2, 3, 4, 5, 6, 13, 14])?;
         writeln!(f, "prefix theorem, packed and unpacked again: {}", prefix.all())?;
         bodies.write_kinds(f, Part::Prefix)?;
         writeln!(f, "  IronRDP and rdp6 compared with a model of FORMAT 3 to 5: {}", prefix.all())?;

@@ -70,8 +70,8 @@ macro_rules! wrong {
 
 wrong!(
     the_17th_pixel_left_out,
-    "pb 6 3 0 0 00*65,0100*6 EE*55",
-    "pb 17 1 1 0 00*66,0100 EE*4",
+    "pb 6 3 bgra 0 0 00*65,0100*6 EE*55",
+    "pb 17 1 bgra 1 0 00*66,0100 EE*4",
     |call, channel, at, place| match place.index {
         BLOCK => 0,
         _ => Right::sample(call, channel, at),
@@ -80,8 +80,8 @@ wrong!(
 
 wrong!(
     leftover_pixels_written_over_the_first,
-    "pb 6 3 0 0 00*5,0100*66 EE*55",
-    "pb 17 1 1 0 00000100*65 EEEE",
+    "pb 6 3 bgra 0 0 00*5,0100*66 EE*55",
+    "pb 17 1 bgra 1 0 00000100*65 EEEE",
     |call, channel, at, place| {
         if place.is_left_over() {
             return 0;
@@ -93,8 +93,8 @@ wrong!(
 
 wrong!(
     leftover_pixels_read_from_the_first,
-    "pb 6 3 0 0 00*5,0100*66 EE*55",
-    "pb 17 1 1 0 00000100*65 EEEEEE",
+    "pb 6 3 bgra 0 0 00*5,0100*66 EE*55",
+    "pb 17 1 bgra 1 0 00000100*65 EEEEEE",
     |call, channel, at, place| {
         Right::sample(call, channel, if place.is_left_over() { at - place.blocks } else { at })
     }
@@ -102,8 +102,8 @@ wrong!(
 
 wrong!(
     every_block_read_from_the_first_pixels,
-    "pb 11 3 0 0 00*105,0100*26 EE*100",
-    "pb 32 1 1 0 00*26,0100*101 EE*5",
+    "pb 11 3 bgra 0 0 00*105,0100*26 EE*100",
+    "pb 32 1 bgra 1 0 00*26,0100*101 EE*5",
     |call, channel, at, place| {
         let in_a_block = place.index < place.blocks;
         Right::sample(call, channel, if in_a_block { at - place.index / BLOCK * BLOCK } else { at })
@@ -112,8 +112,8 @@ wrong!(
 
 wrong!(
     a_neighbouring_channel_in_the_last_block,
-    "pb 6 3 0 0 00*53,0100*18 EE*55",
-    "pb 16 1 1 0 00*58,0100*5 EEEE",
+    "pb 6 3 bgra 0 0 00*53,0100*18 EE*55",
+    "pb 16 1 bgra 1 0 00*58,0100*5 EEEE",
     |call, channel, at, place| {
         let in_the_last = place.index < place.blocks && place.index + BLOCK >= place.blocks;
         Right::sample(call, if in_the_last { neighbour(channel) } else { channel }, at)
@@ -122,8 +122,8 @@ wrong!(
 
 wrong!(
     a_neighbouring_channel_behind_the_blocks,
-    "pb 6 3 0 0 00*71,01 EE*55",
-    "pb 17 1 1 0 00*67,01 EE*4",
+    "pb 6 3 bgra 0 0 00*71,01 EE*55",
+    "pb 17 1 bgra 1 0 00*67,01 EE*4",
     |call, channel, at, place| {
         Right::sample(call, if place.is_left_over() { neighbour(channel) } else { channel }, at)
     }
@@ -131,8 +131,8 @@ wrong!(
 
 wrong!(
     alpha_of_a_block_with_its_highest_bit_lost,
-    "pb 6 3 0 1 0000008000*68 EE*73",
-    "pb 16 1 1 1 00*59,8000*4 EEEE",
+    "pb 6 3 bgra 0 1 0000008000*68 EE*73",
+    "pb 16 1 bgra 1 1 00*59,8000*4 EEEE",
     |call, channel, at, place| {
         let lost = channel == A && place.index < place.blocks;
         Right::sample(call, channel, at) & if lost { 0x7F } else { 0xFF }
@@ -141,8 +141,8 @@ wrong!(
 
 wrong!(
     the_last_1_to_3_pixels_left_out,
-    "pb 6 3 0 0 00*70,0100 EE*55",
-    "pb 17 1 1 0 00*66,0100 EE*4",
+    "pb 6 3 bgra 0 0 00*70,0100 EE*55",
+    "pb 17 1 bgra 1 0 00*66,0100 EE*4",
     |call, channel, at, place| {
         let left_out = place.is_left_over() && place.index >= place.count / 4 * 4;
         if left_out {
@@ -153,18 +153,28 @@ wrong!(
     }
 );
 
-wrong!(four_pixels_read_past_the_last, "pb 6 3 0 0 00*72 EE*55", "pb 17 1 1 0 00*68 -", |call, channel, at, place| {
-    if place.is_left_over() {
-        let last = at - place.index + place.count.next_multiple_of(4) - 1;
-        call.slices()[0].read(4 * last);
+wrong!(
+    four_pixels_read_past_the_last,
+    "pb 6 3 bgra 0 0 00*72 EE*55",
+    "pb 17 1 bgra 1 0 00*68 -",
+    |call, channel, at, place| {
+        if place.is_left_over() {
+            let last = at - place.index + place.count.next_multiple_of(4) - 1;
+            call.slices()[0].read(4 * last);
+        }
+        Right::sample(call, channel, at)
     }
-    Right::sample(call, channel, at)
-});
+);
 
-wrong!(a_block_read_past_the_last, "pb 6 3 0 0 00*72 EE*55", "pb 17 1 1 0 00*68 -", |call, channel, at, place| {
-    if place.is_left_over() {
-        let last = at - place.index + place.count.next_multiple_of(BLOCK) - 1;
-        call.slices()[0].read(4 * last);
+wrong!(
+    a_block_read_past_the_last,
+    "pb 6 3 bgra 0 0 00*72 EE*55",
+    "pb 17 1 bgra 1 0 00*68 -",
+    |call, channel, at, place| {
+        if place.is_left_over() {
+            let last = at - place.index + place.count.next_multiple_of(BLOCK) - 1;
+            call.slices()[0].read(4 * last);
+        }
+        Right::sample(call, channel, at)
     }
-    Right::sample(call, channel, at)
-});
+);

@@ -26,7 +26,7 @@ macro_rules! wrong {
 
 // The order of the planes.
 
-wrong!(blue_first, "pb 1 1 0 0 00000100 EE*4", {
+wrong!(blue_first, "pb 1 1 bgra 0 0 00000100 EE*4", {
     fn plane_order(call: &Call) -> Vec<Channel> {
         if call.alpha {
             vec![A, B, G, R]
@@ -36,7 +36,7 @@ wrong!(blue_first, "pb 1 1 0 0 00000100 EE*4", {
     }
 });
 
-wrong!(green_and_blue_exchanged, "pb 1 1 0 0 00010000 EE*4", {
+wrong!(green_and_blue_exchanged, "pb 1 1 bgra 0 0 00010000 EE*4", {
     fn plane_order(call: &Call) -> Vec<Channel> {
         if call.alpha {
             vec![A, R, B, G]
@@ -46,7 +46,7 @@ wrong!(green_and_blue_exchanged, "pb 1 1 0 0 00010000 EE*4", {
     }
 });
 
-wrong!(red_and_green_exchanged_with_alpha, "pb 1 1 0 1 00000100 EE*5", {
+wrong!(red_and_green_exchanged_with_alpha, "pb 1 1 bgra 0 1 00000100 EE*5", {
     fn plane_order(call: &Call) -> Vec<Channel> {
         if call.alpha {
             vec![A, G, R, B]
@@ -56,7 +56,7 @@ wrong!(red_and_green_exchanged_with_alpha, "pb 1 1 0 1 00000100 EE*5", {
     }
 });
 
-wrong!(the_alpha_plane_last, "pb 1 1 0 1 00000001 EE*5", {
+wrong!(the_alpha_plane_last, "pb 1 1 bgra 0 1 00000001 EE*5", {
     fn plane_order(call: &Call) -> Vec<Channel> {
         if call.alpha {
             vec![R, G, B, A]
@@ -66,7 +66,7 @@ wrong!(the_alpha_plane_last, "pb 1 1 0 1 00000001 EE*5", {
     }
 });
 
-wrong!(the_alpha_plane_last_if_raw, "pb 1 1 0 1 00000001 EE*5", {
+wrong!(the_alpha_plane_last_if_raw, "pb 1 1 bgra 0 1 00000001 EE*5", {
     fn plane_order(call: &Call) -> Vec<Channel> {
         match (call.alpha, call.rle) {
             (true, true) => vec![A, R, G, B],
@@ -76,13 +76,13 @@ wrong!(the_alpha_plane_last_if_raw, "pb 1 1 0 1 00000001 EE*5", {
     }
 });
 
-wrong!(the_alpha_plane_left_out, "pb 1 1 0 1 00*4 EE*5", {
+wrong!(the_alpha_plane_left_out, "pb 1 1 bgra 0 1 00*4 EE*5", {
     fn plane_order(_call: &Call) -> Vec<Channel> {
         vec![R, G, B]
     }
 });
 
-wrong!(an_alpha_plane_of_every_bitmap, "pb 1 1 0 0 00*4 EE*4", {
+wrong!(an_alpha_plane_of_every_bitmap, "pb 1 1 bgra 0 0 00*4 EE*4", {
     fn plane_order(call: &Call) -> Vec<Channel> {
         if call.alpha || call.is_bitmap() {
             vec![A, R, G, B]
@@ -92,7 +92,7 @@ wrong!(an_alpha_plane_of_every_bitmap, "pb 1 1 0 0 00*4 EE*4", {
     }
 });
 
-wrong!(red_in_every_plane, "pb 1 1 0 0 00000100 EE*4", {
+wrong!(red_in_every_plane, "pb 1 1 bgra 0 0 00000100 EE*4", {
     fn plane_order(call: &Call) -> Vec<Channel> {
         vec![R; call.planes()]
     }
@@ -100,37 +100,37 @@ wrong!(red_in_every_plane, "pb 1 1 0 0 00000100 EE*4", {
 
 // The layout of a pixel.
 
-wrong!(bgra_as_rgba, "pb 1 1 0 0 00000100 EE*4", {
+wrong!(bgra_as_rgba, "pb 1 1 bgra 0 0 00000100 EE*4", {
     fn place(channel: Channel) -> usize {
         channel as usize
     }
 });
 
-wrong!(bgra_as_argb, "pb 1 1 0 0 00000001 EE*4", {
+wrong!(bgra_as_argb, "pb 1 1 bgra 0 0 00000001 EE*4", {
     fn place(channel: Channel) -> usize {
         (channel as usize + 1) % 4
     }
 });
 
-wrong!(bgra_as_abgr, "pb 1 1 0 0 00000001 EE*4", {
+wrong!(bgra_as_abgr, "pb 1 1 bgra 0 0 00000001 EE*4", {
     fn place(channel: Channel) -> usize {
         3 - channel as usize
     }
 });
 
-wrong!(a_channel_off_by_one, "pb 1 1 0 0 00000001 EE*4", {
+wrong!(a_channel_off_by_one, "pb 1 1 bgra 0 0 00000001 EE*4", {
     fn place(channel: Channel) -> usize {
         Right::place(channel) + 1
     }
 });
 
-wrong!(alpha_read_from_red, "pb 1 1 0 1 00000001 EE*5", {
+wrong!(alpha_read_from_red, "pb 1 1 bgra 0 1 00000001 EE*5", {
     fn place(channel: Channel) -> usize {
         Right::place(channel).min(2)
     }
 });
 
-wrong!(alpha_read_from_the_first_byte, "pb 1 1 0 1 00000001 EE*5", {
+wrong!(alpha_read_from_the_first_byte, "pb 1 1 bgra 0 1 00000001 EE*5", {
     fn place(channel: Channel) -> usize {
         if channel == A {
             0
@@ -140,25 +140,25 @@ wrong!(alpha_read_from_the_first_byte, "pb 1 1 0 1 00000001 EE*5", {
     }
 });
 
-wrong!(a_stride_of_3, "pb 2 1 0 0 00*6,0100 EE*7", {
+wrong!(a_stride_of_3, "pb 2 1 bgra 0 0 00*6,0100 EE*7", {
     fn stride(_call: &Call) -> usize {
         3
     }
 });
 
-wrong!(a_stride_of_3_without_alpha, "pb 2 1 0 0 00*6,0100 EE*7", {
+wrong!(a_stride_of_3_without_alpha, "pb 2 1 bgra 0 0 00*6,0100 EE*7", {
     fn stride(call: &Call) -> usize {
         call.planes()
     }
 });
 
-wrong!(a_stride_of_5, "pb 2 1 0 0 00*7,01 EE*7", {
+wrong!(a_stride_of_5, "pb 2 1 bgra 0 0 00*7,01 EE*7", {
     fn stride(_call: &Call) -> usize {
         5
     }
 });
 
-wrong!(a_stride_of_1, "pb 2 1 0 0 00*6,0100 EE*7", {
+wrong!(a_stride_of_1, "pb 2 1 bgra 0 0 00*6,0100 EE*7", {
     fn stride(_call: &Call) -> usize {
         1
     }
@@ -173,7 +173,7 @@ wrong!(alpha_in_front_of_the_other_channels, "pc 1 1 0 00 00 00 01 EE*5", {
     }
 });
 
-wrong!(alpha_inverted, "pb 1 1 0 1 00*4 EE*5", {
+wrong!(alpha_inverted, "pb 1 1 bgra 0 1 00*4 EE*5", {
     fn sample(call: &Call, channel: Channel, at: usize) -> u8 {
         let sample = Right::sample(call, channel, at);
         if channel == A {
@@ -184,7 +184,7 @@ wrong!(alpha_inverted, "pb 1 1 0 1 00*4 EE*5", {
     }
 });
 
-wrong!(alpha_always_opaque, "pb 1 1 0 1 00*4 EE*5", {
+wrong!(alpha_always_opaque, "pb 1 1 bgra 0 1 00*4 EE*5", {
     fn sample(call: &Call, channel: Channel, at: usize) -> u8 {
         if channel == A {
             0xFF
@@ -194,13 +194,136 @@ wrong!(alpha_always_opaque, "pb 1 1 0 1 00*4 EE*5", {
     }
 });
 
-wrong!(colours_multiplied_by_alpha, "pb 1 1 0 1 00000100 EE*5", {
+wrong!(colours_multiplied_by_alpha, "pb 1 1 bgra 0 1 00000100 EE*5", {
     fn sample(call: &Call, channel: Channel, at: usize) -> u8 {
         let sample = Right::sample(call, channel, at);
         if !call.alpha || channel == A {
             return sample;
         }
         (u16::from(sample) * u16::from(Right::sample(call, A, at)) / 255) as u8
+    }
+});
+
+// The other layouts, and those that there are not.
+
+wrong!(red_and_blue_exchanged_in_rgba, "pb 1 1 rgba 0 0 01000000 EE*4", {
+    fn place_in(layout: u32, channel: Channel) -> usize {
+        match (layout, channel) {
+            (1, R) => 2,
+            (1, B) => 0,
+            _ => Right::place_in(layout, channel),
+        }
+    }
+});
+
+wrong!(red_and_blue_exchanged_in_argb, "pb 1 1 argb 0 0 00010000 EE*4", {
+    fn place_in(layout: u32, channel: Channel) -> usize {
+        match (layout, channel) {
+            (2, R) => 3,
+            (2, B) => 1,
+            _ => Right::place_in(layout, channel),
+        }
+    }
+});
+
+wrong!(red_and_blue_exchanged_in_abgr, "pb 1 1 abgr 0 0 00000001 EE*4", {
+    fn place_in(layout: u32, channel: Channel) -> usize {
+        match (layout, channel) {
+            (3, R) => 1,
+            (3, B) => 3,
+            _ => Right::place_in(layout, channel),
+        }
+    }
+});
+
+wrong!(alpha_of_argb_read_from_the_last_byte, "pb 1 1 argb 0 1 01000000 EE*5", {
+    fn place_in(layout: u32, channel: Channel) -> usize {
+        match (layout, channel) {
+            (2, A) => 3,
+            _ => Right::place_in(layout, channel),
+        }
+    }
+});
+
+wrong!(every_layout_as_bgra, "pb 1 1 rgba 0 0 01000000 EE*4", {
+    fn place_in(_layout: u32, channel: Channel) -> usize {
+        Right::place(channel)
+    }
+});
+
+wrong!(argb_and_abgr_exchanged, "pb 1 1 argb 0 0 00010000 EE*4", {
+    fn place_in(layout: u32, channel: Channel) -> usize {
+        Right::place_in(if layout > 1 { 5 - layout } else { layout }, channel)
+    }
+});
+
+wrong!(the_other_layouts_shifted_in_wide_rows, "pb 64 1 rgba 0 0 00*254,0100 EE*193", {
+    fn sample(call: &Call, channel: Channel, at: usize) -> u8 {
+        let last = call.layout == 1 && call.width >= 64 && at % call.width == call.width - 1;
+        Right::sample(call, channel, at - usize::from(last))
+    }
+});
+
+wrong!(a_layout_modulo_4, "pb 1 1 4 0 0 - -", {
+    fn layout_refused(_layout: u32) -> bool {
+        false
+    }
+
+    fn place_in(layout: u32, channel: Channel) -> usize {
+        Right::place_in(layout % 4, channel)
+    }
+});
+
+wrong!(a_layout_modulo_256, "pb 1 1 256 0 0 - -", {
+    fn layout_refused(layout: u32) -> bool {
+        layout % 256 > 3
+    }
+
+    fn place_in(layout: u32, channel: Channel) -> usize {
+        Right::place_in(layout % 256, channel)
+    }
+});
+
+wrong!(layout_3_refused, "pb 1 1 abgr 0 0 - -", {
+    fn layout_refused(layout: u32) -> bool {
+        layout > 2
+    }
+});
+
+wrong!(refusal_3_before_1, "pb 0 0 4 0 0 - -", {
+    fn layout_order() -> usize {
+        0
+    }
+});
+
+wrong!(refusal_3_between_1_and_2, "pb 8193 1 4 0 0 - -", {
+    fn layout_order() -> usize {
+        1
+    }
+});
+
+wrong!(refusal_3_after_11, "pb 1 1 4 0 0 - -", {
+    fn layout_order() -> usize {
+        3
+    }
+});
+
+wrong!(refusal_3_after_12, "pb 1 1 4 0 0 00*4 -", {
+    fn refused(call: &Call) -> i64 {
+        match Right::refused(call) {
+            3 if !Self::is_short(call) && !call.rle && call.dst.len < Self::raw_needed(call) => 12,
+            number => number,
+        }
+    }
+});
+
+wrong!(a_wrong_layout_clears_the_destination, "pb 1 1 4 0 0 - EE", {
+    fn encode(call: &mut Call) -> i64 {
+        let answer = Right::encode(call);
+        if answer == -3 {
+            call.dst.bytes_mut().fill(0);
+        }
+        answer
     }
 });
 
@@ -213,7 +336,7 @@ wrong!(rows_upside_down, "pc 1 2 0 0000 0001 0000 none EE*7", {
     }
 });
 
-wrong!(rows_from_right_to_left, "pb 2 1 0 0 00*6,0100 EE*7", {
+wrong!(rows_from_right_to_left, "pb 2 1 bgra 0 0 00*6,0100 EE*7", {
     fn sample(call: &Call, channel: Channel, at: usize) -> u8 {
         let (row, column) = (at / call.width, at % call.width);
         Right::sample(call, channel, row * call.width + call.width - 1 - column)
@@ -233,13 +356,13 @@ wrong!(the_first_row_copied_down, "pc 1 2 0 0000 0001 0000 none EE*7", {
     }
 });
 
-wrong!(the_first_sample_left_out, "pb 1 1 0 0 00000100 EE*4", {
+wrong!(the_first_sample_left_out, "pb 1 1 bgra 0 0 00000100 EE*4", {
     fn sample(call: &Call, channel: Channel, at: usize) -> u8 {
         Right::sample(call, channel, at + 1)
     }
 });
 
-wrong!(the_last_sample_left_out_of_a_raw_picture, "pb 1 1 0 0 00*4 EE*4", {
+wrong!(the_last_sample_left_out_of_a_raw_picture, "pb 1 1 bgra 0 0 00*4 EE*4", {
     fn used(call: &Call, _channel: Channel) -> usize {
         call.full() - usize::from(!call.rle)
     }
@@ -295,28 +418,28 @@ wrong!(rows_beyond_the_height_packed, "pc 1 1 1 0000 0100 0000 none EE*4", {
 
 // RLE planes.
 
-wrong!(rle_for_raw_and_raw_for_rle, "pb 1 1 0 0 00*4 EEEE", {
+wrong!(rle_for_raw_and_raw_for_rle, "pb 1 1 bgra 0 0 00*4 EEEE", {
     fn encode(call: &mut Call) -> i64 {
         call.rle = !call.rle;
         Right::encode(call)
     }
 });
 
-wrong!(always_raw, "pb 1 1 1 0 00*4 EEEE", {
+wrong!(always_raw, "pb 1 1 bgra 1 0 00*4 EEEE", {
     fn encode(call: &mut Call) -> i64 {
         call.rle = false;
         Right::encode(call)
     }
 });
 
-wrong!(always_rle, "pb 1 1 0 0 00*4 EEEE", {
+wrong!(always_rle, "pb 1 1 bgra 0 0 00*4 EEEE", {
     fn encode(call: &mut Call) -> i64 {
         call.rle = true;
         Right::encode(call)
     }
 });
 
-wrong!(raw_where_rle_is_longer, "pb 1 1 1 0 00*4 EE*6", {
+wrong!(raw_where_rle_is_longer, "pb 1 1 bgra 1 0 00*4 EE*6", {
     fn write_rle(call: &mut Call) -> Result<usize, i64> {
         let count = Right::write_rle(call)?;
         if count > Self::raw_needed(call) {
@@ -341,7 +464,7 @@ wrong!(width_and_height_of_a_plane_exchanged, "pc 2 1 1 0000 0000 0000 none EEEE
     }
 });
 
-wrong!(a_plane_coded_by_the_last_row_of_the_plane_before, "pb 1 1 1 0 00000100 EE*4", {
+wrong!(a_plane_coded_by_the_last_row_of_the_plane_before, "pb 1 1 bgra 1 0 00000100 EE*4", {
     fn write_rle(call: &mut Call) -> Result<usize, i64> {
         let order = Self::plane_order(call);
         let planes: Vec<u8> = order.into_iter().flat_map(|channel| Self::plane(call, channel)).collect();
@@ -350,7 +473,7 @@ wrong!(a_plane_coded_by_the_last_row_of_the_plane_before, "pb 1 1 1 0 00000100 E
     }
 });
 
-wrong!(a_zero_byte_behind_rle_planes, "pb 1 1 1 0 00*4 EE*6", {
+wrong!(a_zero_byte_behind_rle_planes, "pb 1 1 bgra 1 0 00*4 EE*6", {
     fn write_rle(call: &mut Call) -> Result<usize, i64> {
         let count = Right::write_rle(call)?;
         if count == call.dst.len {
@@ -361,7 +484,7 @@ wrong!(a_zero_byte_behind_rle_planes, "pb 1 1 1 0 00*4 EE*6", {
     }
 });
 
-wrong!(a_zero_byte_behind_rle_planes_if_there_is_room, "pb 1 1 1 0 00*4 EE*7", {
+wrong!(a_zero_byte_behind_rle_planes_if_there_is_room, "pb 1 1 bgra 1 0 00*4 EE*7", {
     fn write_rle(call: &mut Call) -> Result<usize, i64> {
         let count = Right::write_rle(call)?;
         if count < call.dst.len {
@@ -372,7 +495,7 @@ wrong!(a_zero_byte_behind_rle_planes_if_there_is_room, "pb 1 1 1 0 00*4 EE*7", {
     }
 });
 
-wrong!(a_zero_byte_behind_each_rle_plane, "pb 1 1 1 0 00*4 EEEEEE", {
+wrong!(a_zero_byte_behind_each_rle_plane, "pb 1 1 bgra 1 0 00*4 EEEEEE", {
     fn next_plane(call: &Call, at: usize) -> usize {
         if at < call.dst.len {
             call.dst.write(at, 0);
@@ -381,7 +504,7 @@ wrong!(a_zero_byte_behind_each_rle_plane, "pb 1 1 1 0 00*4 EEEEEE", {
     }
 });
 
-wrong!(a_plane_started_a_byte_late, "pb 1 1 1 0 00*4 EE*4", {
+wrong!(a_plane_started_a_byte_late, "pb 1 1 bgra 1 0 00*4 EE*4", {
     fn next_plane(_call: &Call, at: usize) -> usize {
         at + 1
     }
@@ -391,7 +514,7 @@ wrong!(a_plane_started_a_byte_late, "pb 1 1 1 0 00*4 EE*4", {
     }
 });
 
-wrong!(a_plane_started_a_byte_early, "pb 1 1 1 0 00*4 EEEEEE", {
+wrong!(a_plane_started_a_byte_early, "pb 1 1 bgra 1 0 00*4 EEEEEE", {
     fn write_rle(call: &mut Call) -> Result<usize, i64> {
         let mut at: usize = 0;
         for channel in Self::plane_order(call) {
@@ -402,7 +525,7 @@ wrong!(a_plane_started_a_byte_early, "pb 1 1 1 0 00*4 EEEEEE", {
     }
 });
 
-wrong!(every_plane_at_the_start, "pb 1 1 1 0 00*4 EEEE", {
+wrong!(every_plane_at_the_start, "pb 1 1 bgra 1 0 00*4 EEEE", {
     fn write_rle(call: &mut Call) -> Result<usize, i64> {
         let mut count = 0;
         for channel in Self::plane_order(call) {
@@ -424,7 +547,7 @@ wrong!(every_plane_at_its_raw_place, "pc 4 1 1 00*4 00*4 00*4 none EE*4", {
 
 // Refusal 12 of an RLE picture.
 
-wrong!(everything_taken_back_by_refusal_12, "pb 1 1 1 0 00*4 EEEE", {
+wrong!(everything_taken_back_by_refusal_12, "pb 1 1 bgra 1 0 00*4 EEEE", {
     fn write_rle(call: &mut Call) -> Result<usize, i64> {
         let earlier = call.dst.bytes().to_vec();
         let outcome = Right::write_rle(call);
@@ -446,7 +569,7 @@ wrong!(the_refused_plane_taken_back, "pc 17 1 1 00*17 00*17 00*17 none EEEE", {
     }
 });
 
-wrong!(the_planes_before_the_refused_one_taken_back, "pb 1 1 1 0 00*4 EEEE", {
+wrong!(the_planes_before_the_refused_one_taken_back, "pb 1 1 bgra 1 0 00*4 EEEE", {
     fn write_rle(call: &mut Call) -> Result<usize, i64> {
         let earlier = call.dst.bytes().to_vec();
         let mut at = 0;
@@ -459,7 +582,7 @@ wrong!(the_planes_before_the_refused_one_taken_back, "pb 1 1 1 0 00*4 EEEE", {
     }
 });
 
-wrong!(half_a_segment_before_refusal_12, "pb 1 1 1 0 00*4 EE", {
+wrong!(half_a_segment_before_refusal_12, "pb 1 1 bgra 1 0 00*4 EE", {
     fn write_plane(call: &mut Call, channel: Channel, at: usize) -> Result<usize, i64> {
         let (plane, sides) = (Self::plane(call, channel), (call.width, call.height));
         let mut packing = vec![0; 2 * plane.len()];
@@ -474,7 +597,7 @@ wrong!(half_a_segment_before_refusal_12, "pb 1 1 1 0 00*4 EE", {
     }
 });
 
-wrong!(the_rest_cleared_by_refusal_12, "pb 1 1 1 0 00*4 EE", {
+wrong!(the_rest_cleared_by_refusal_12, "pb 1 1 bgra 1 0 00*4 EE", {
     fn write_rle(call: &mut Call) -> Result<usize, i64> {
         let mut at = 0;
         for channel in Self::plane_order(call) {
@@ -529,7 +652,7 @@ wrong!(refusal_12_of_rle_by_the_raw_size, "pc 1 1 1 00 00 00 none EEEE", {
     }
 });
 
-wrong!(refusal_12_at_once_for_an_empty_plane_left, "pb 1 1 1 0 00*4 EEEE", {
+wrong!(refusal_12_at_once_for_an_empty_plane_left, "pb 1 1 bgra 1 0 00*4 EEEE", {
     fn write_rle(call: &mut Call) -> Result<usize, i64> {
         let mut at = 0;
         for channel in Self::plane_order(call) {
@@ -545,13 +668,13 @@ wrong!(refusal_12_at_once_for_an_empty_plane_left, "pb 1 1 1 0 00*4 EEEE", {
 
 // Raw pictures.
 
-wrong!(no_zero_byte, "pb 1 1 0 0 00*4 EE*4", {
+wrong!(no_zero_byte, "pb 1 1 bgra 0 0 00*4 EE*4", {
     fn pad() -> Vec<u8> {
         vec![]
     }
 });
 
-wrong!(no_zero_byte_asked_or_written, "pb 1 1 0 0 00*4 EEEEEE", {
+wrong!(no_zero_byte_asked_or_written, "pb 1 1 bgra 0 0 00*4 EEEEEE", {
     fn pad() -> Vec<u8> {
         vec![]
     }
@@ -561,7 +684,7 @@ wrong!(no_zero_byte_asked_or_written, "pb 1 1 0 0 00*4 EEEEEE", {
     }
 });
 
-wrong!(a_zero_byte_counted_and_not_written, "pb 1 1 0 0 00*4 EE*4", {
+wrong!(a_zero_byte_counted_and_not_written, "pb 1 1 bgra 0 0 00*4 EE*4", {
     fn pad() -> Vec<u8> {
         vec![]
     }
@@ -571,13 +694,13 @@ wrong!(a_zero_byte_counted_and_not_written, "pb 1 1 0 0 00*4 EE*4", {
     }
 });
 
-wrong!(a_last_byte_of_another_value, "pb 1 1 0 0 00*4 EE*4", {
+wrong!(a_last_byte_of_another_value, "pb 1 1 bgra 0 0 00*4 EE*4", {
     fn pad() -> Vec<u8> {
         vec![0xFF]
     }
 });
 
-wrong!(two_zero_bytes, "pb 1 1 0 0 00*4 EE*4", {
+wrong!(two_zero_bytes, "pb 1 1 bgra 0 0 00*4 EE*4", {
     fn pad() -> Vec<u8> {
         vec![0, 0]
     }
@@ -587,7 +710,7 @@ wrong!(two_zero_bytes, "pb 1 1 0 0 00*4 EE*4", {
     }
 });
 
-wrong!(a_zero_byte_first, "pb 1 1 0 0 00000100 EE*4", {
+wrong!(a_zero_byte_first, "pb 1 1 bgra 0 0 00000100 EE*4", {
     fn raw_body(call: &Call) -> Vec<u8> {
         let mut body = Right::raw_body(call);
         body.rotate_right(1);
@@ -595,7 +718,7 @@ wrong!(a_zero_byte_first, "pb 1 1 0 0 00000100 EE*4", {
     }
 });
 
-wrong!(a_zero_byte_behind_each_raw_plane, "pb 1 1 0 0 00*4 EE*4", {
+wrong!(a_zero_byte_behind_each_raw_plane, "pb 1 1 bgra 0 0 00*4 EE*4", {
     fn raw_needed(call: &Call) -> usize {
         call.planes() * (call.full() + 1)
     }
@@ -605,7 +728,7 @@ wrong!(a_zero_byte_behind_each_raw_plane, "pb 1 1 0 0 00*4 EE*4", {
     }
 });
 
-wrong!(a_zero_byte_only_at_odd_lengths, "pb 1 1 0 1 00*4 EE*5", {
+wrong!(a_zero_byte_only_at_odd_lengths, "pb 1 1 bgra 0 1 00*4 EE*5", {
     fn raw_body(call: &Call) -> Vec<u8> {
         let mut body = Right::raw_body(call);
         if body.len() % 2 == 1 {
@@ -615,7 +738,7 @@ wrong!(a_zero_byte_only_at_odd_lengths, "pb 1 1 0 1 00*4 EE*5", {
     }
 });
 
-wrong!(pixels_instead_of_planes, "pb 2 1 0 0 00*6,0100 EE*7", {
+wrong!(pixels_instead_of_planes, "pb 2 1 bgra 0 0 00*6,0100 EE*7", {
     fn raw_body(call: &Call) -> Vec<u8> {
         let order = Self::plane_order(call);
         let pixels = (0..call.full()).flat_map(|at| order.iter().map(move |&of| Self::sample(call, of, at)));
@@ -623,13 +746,13 @@ wrong!(pixels_instead_of_planes, "pb 2 1 0 0 00*6,0100 EE*7", {
     }
 });
 
-wrong!(refusal_12_one_byte_late, "pb 1 1 0 0 00*4 EEEEEE", {
+wrong!(refusal_12_one_byte_late, "pb 1 1 bgra 0 0 00*4 EEEEEE", {
     fn raw_needed(call: &Call) -> usize {
         call.planes() * call.full()
     }
 });
 
-wrong!(refusal_12_one_byte_late_without_the_zero_byte, "pb 1 1 0 0 00*4 EEEEEE", {
+wrong!(refusal_12_one_byte_late_without_the_zero_byte, "pb 1 1 bgra 0 0 00*4 EEEEEE", {
     fn raw_needed(call: &Call) -> usize {
         call.planes() * call.full()
     }
@@ -641,19 +764,19 @@ wrong!(refusal_12_one_byte_late_without_the_zero_byte, "pb 1 1 0 0 00*4 EEEEEE",
     }
 });
 
-wrong!(refusal_12_one_byte_early, "pb 1 1 0 0 00*4 EE*4", {
+wrong!(refusal_12_one_byte_early, "pb 1 1 bgra 0 0 00*4 EE*4", {
     fn raw_needed(call: &Call) -> usize {
         call.planes() * call.full() + 2
     }
 });
 
-wrong!(refusal_12_of_three_planes_as_of_four, "pb 1 1 0 0 00*4 EE*4", {
+wrong!(refusal_12_of_three_planes_as_of_four, "pb 1 1 bgra 0 0 00*4 EE*4", {
     fn raw_needed(call: &Call) -> usize {
         4 * call.full() + 1
     }
 });
 
-wrong!(refusal_12_of_four_planes_as_of_three, "pb 1 1 0 1 00*4 EE*4", {
+wrong!(refusal_12_of_four_planes_as_of_three, "pb 1 1 bgra 0 1 00*4 EE*4", {
     fn raw_needed(call: &Call) -> usize {
         3 * call.full() + 1
     }
@@ -671,7 +794,7 @@ wrong!(refusal_12_by_a_product_that_wraps, "pc 7282 3 0 00*21846 00*21846 00*218
     }
 });
 
-wrong!(a_raw_12_that_writes_what_fits, "pb 1 1 0 0 00*4 EE", {
+wrong!(a_raw_12_that_writes_what_fits, "pb 1 1 bgra 0 0 00*4 EE", {
     fn write_raw(call: &mut Call) -> Result<usize, i64> {
         let body = Self::raw_body(call);
         body.iter().take(call.dst.len).enumerate().for_each(|(at, &byte)| call.dst.write(at, byte));
@@ -683,7 +806,7 @@ wrong!(a_raw_12_that_writes_what_fits, "pb 1 1 0 0 00*4 EE", {
     }
 });
 
-wrong!(a_raw_12_that_writes_the_planes_that_fit, "pb 1 1 0 0 00*4 EE", {
+wrong!(a_raw_12_that_writes_the_planes_that_fit, "pb 1 1 bgra 0 0 00*4 EE", {
     fn write_raw(call: &mut Call) -> Result<usize, i64> {
         let (body, full) = (Self::raw_body(call), call.full());
         let fits = call.dst.len.min(body.len() - 1) / full * full;
@@ -692,7 +815,7 @@ wrong!(a_raw_12_that_writes_the_planes_that_fit, "pb 1 1 0 0 00*4 EE", {
     }
 });
 
-wrong!(a_raw_12_that_clears_the_first_byte, "pb 1 1 0 0 00*4 EE", {
+wrong!(a_raw_12_that_clears_the_first_byte, "pb 1 1 bgra 0 0 00*4 EE", {
     fn after_refusal(call: &mut Call, _number: i64) {
         if !call.rle && call.dst.len > 0 {
             call.dst.write(0, 0);
@@ -708,7 +831,7 @@ wrong!(refusal_2_before_1, "pc 0 8193 0 - - - none -", {
     }
 });
 
-wrong!(refusal_11_before_2, "pb 8193 1 0 0 - -", {
+wrong!(refusal_11_before_2, "pb 8193 1 bgra 0 0 - -", {
     fn order() -> [usize; 3] {
         [0, 2, 1]
     }
@@ -725,7 +848,7 @@ wrong!(refusal_12_of_a_raw_picture_before_11, "pc 1 1 0 - - - none -", {
     }
 });
 
-wrong!(refusal_12_of_an_empty_destination_before_11, "pb 1 1 1 0 - -", {
+wrong!(refusal_12_of_an_empty_destination_before_11, "pb 1 1 bgra 1 0 - -", {
     fn tests(call: &Call) -> [(bool, i64); 3] {
         let mut tests = Right::tests(call);
         if call.rle && call.dst.len == 0 && tests[2].0 {
@@ -783,14 +906,14 @@ wrong!(sides_of_8192_refused, "pc 1 8192 0 - - - none -", {
     }
 });
 
-wrong!(only_the_width_tested, "pb 1 0 0 0 - -", {
+wrong!(only_the_width_tested, "pb 1 0 bgra 0 0 - -", {
     fn tests(call: &Call) -> [(bool, i64); 3] {
         let [(_, one), (_, two), short] = Right::tests(call);
         [(call.width == 0, one), (call.width > MAX_SIDE, two), short]
     }
 });
 
-wrong!(a_height_of_0_packed_as_nothing, "pb 1 0 0 0 - -", {
+wrong!(a_height_of_0_packed_as_nothing, "pb 1 0 bgra 0 0 - -", {
     fn encode(call: &mut Call) -> i64 {
         if call.width > 0 && call.height == 0 {
             0
@@ -847,7 +970,7 @@ wrong!(a_source_one_sample_short_taken, "pc 1 1 0 - - - none -", {
     }
 });
 
-wrong!(an_exact_source_refused, "pb 1 1 0 0 00*4 -", {
+wrong!(an_exact_source_refused, "pb 1 1 bgra 0 0 00*4 -", {
     fn needed_samples(call: &Call) -> usize {
         call.full().saturating_add(1)
     }
@@ -866,13 +989,13 @@ wrong!(a_longer_source_of_a_raw_picture_refused, "pc 1 1 0 00 00 0000 none -", {
     }
 });
 
-wrong!(half_a_pixel_counted, "pb 1 1 0 0 00 -", {
+wrong!(half_a_pixel_counted, "pb 1 1 bgra 0 0 00 -", {
     fn complete_pixels(len: usize) -> usize {
         len.div_ceil(4)
     }
 });
 
-wrong!(a_pixel_without_its_alpha_counted, "pb 1 1 0 0 000000 -", {
+wrong!(a_pixel_without_its_alpha_counted, "pb 1 1 bgra 0 0 000000 -", {
     fn is_short(call: &Call) -> bool {
         match &call.given {
             Given::Pixels(pixels) if !call.alpha => (pixels.len + 1) / 4 < call.full(),
@@ -881,19 +1004,19 @@ wrong!(a_pixel_without_its_alpha_counted, "pb 1 1 0 0 000000 -", {
     }
 });
 
-wrong!(pixels_of_three_bytes_counted, "pb 1 1 0 0 000000 -", {
+wrong!(pixels_of_three_bytes_counted, "pb 1 1 bgra 0 0 000000 -", {
     fn complete_pixels(len: usize) -> usize {
         len / 3
     }
 });
 
-wrong!(bytes_counted_for_pixels, "pb 1 1 0 0 00 -", {
+wrong!(bytes_counted_for_pixels, "pb 1 1 bgra 0 0 00 -", {
     fn complete_pixels(len: usize) -> usize {
         len
     }
 });
 
-wrong!(a_part_of_a_pixel_refused, "pb 1 1 0 0 00*5 -", {
+wrong!(a_part_of_a_pixel_refused, "pb 1 1 bgra 0 0 00*5 -", {
     fn is_short(call: &Call) -> bool {
         Right::is_short(call) || call.is_bitmap() && !call.slices()[0].len.is_multiple_of(4)
     }
@@ -901,19 +1024,19 @@ wrong!(a_part_of_a_pixel_refused, "pb 1 1 0 0 00*5 -", {
 
 // The answer.
 
-wrong!(the_header_byte_counted, "pb 1 1 0 0 00*4 EE*4", {
+wrong!(the_header_byte_counted, "pb 1 1 bgra 0 0 00*4 EE*4", {
     fn finish(_call: &mut Call, count: usize) -> i64 {
         count as i64 + 1
     }
 });
 
-wrong!(the_zero_byte_not_counted, "pb 1 1 0 0 00*4 EE*4", {
+wrong!(the_zero_byte_not_counted, "pb 1 1 bgra 0 0 00*4 EE*4", {
     fn finish(call: &mut Call, count: usize) -> i64 {
         count as i64 - i64::from(!call.rle)
     }
 });
 
-wrong!(the_last_plane_alone_counted, "pb 1 1 1 0 00*4 EE*6", {
+wrong!(the_last_plane_alone_counted, "pb 1 1 bgra 1 0 00*4 EE*6", {
     fn write_rle(call: &mut Call) -> Result<usize, i64> {
         let (mut at, mut last) = (0, 0);
         for channel in Self::plane_order(call) {
@@ -924,13 +1047,13 @@ wrong!(the_last_plane_alone_counted, "pb 1 1 1 0 00*4 EE*6", {
     }
 });
 
-wrong!(the_destinations_length_as_the_answer, "pb 1 1 0 0 00*4 EE*5", {
+wrong!(the_destinations_length_as_the_answer, "pb 1 1 bgra 0 0 00*4 EE*5", {
     fn finish(call: &mut Call, _count: usize) -> i64 {
         call.dst.len as i64
     }
 });
 
-wrong!(the_pixels_as_the_answer, "pb 1 1 0 0 00*4 EE*4", {
+wrong!(the_pixels_as_the_answer, "pb 1 1 bgra 0 0 00*4 EE*4", {
     fn finish(call: &mut Call, _count: usize) -> i64 {
         call.full() as i64
     }
@@ -938,7 +1061,7 @@ wrong!(the_pixels_as_the_answer, "pb 1 1 0 0 00*4 EE*4", {
 
 // The slices.
 
-wrong!(a_header_byte_in_front_of_the_planes, "pb 1 1 0 0 00*4 EE", {
+wrong!(a_header_byte_in_front_of_the_planes, "pb 1 1 bgra 0 0 00*4 EE", {
     fn encode(call: &mut Call) -> i64 {
         let refused = Self::refused(call);
         if refused != 0 || call.dst.len == 0 {
@@ -955,28 +1078,28 @@ wrong!(a_header_byte_in_front_of_the_planes, "pb 1 1 0 0 00*4 EE", {
     }
 });
 
-wrong!(a_byte_behind_the_packing, "pb 1 1 0 0 00*4 EE*5", {
+wrong!(a_byte_behind_the_packing, "pb 1 1 bgra 0 0 00*4 EE*5", {
     fn finish(call: &mut Call, count: usize) -> i64 {
         call.dst.bytes_mut()[count..].iter_mut().take(1).for_each(|byte| *byte = 0);
         count as i64
     }
 });
 
-wrong!(the_rest_of_the_destination_cleared, "pb 1 1 0 0 00*4 EE*5", {
+wrong!(the_rest_of_the_destination_cleared, "pb 1 1 bgra 0 0 00*4 EE*5", {
     fn finish(call: &mut Call, count: usize) -> i64 {
         call.dst.bytes_mut()[count..].fill(0);
         count as i64
     }
 });
 
-wrong!(a_byte_behind_the_destination, "pb 1 1 0 0 00*4 EE*4", {
+wrong!(a_byte_behind_the_destination, "pb 1 1 bgra 0 0 00*4 EE*4", {
     fn finish(call: &mut Call, count: usize) -> i64 {
         call.dst.write(call.dst.len, 0);
         count as i64
     }
 });
 
-wrong!(a_byte_before_the_destination, "pb 1 1 0 0 00*4 EE*4", {
+wrong!(a_byte_before_the_destination, "pb 1 1 bgra 0 0 00*4 EE*4", {
     fn finish(call: &mut Call, count: usize) -> i64 {
         // SAFETY: a mistake made on purpose, into memory that the comparer watches.
         unsafe { call.dst.at.sub(1).write_volatile(0) };
@@ -984,7 +1107,7 @@ wrong!(a_byte_before_the_destination, "pb 1 1 0 0 00*4 EE*4", {
     }
 });
 
-wrong!(the_first_source_written_to, "pb 1 1 0 0 00*4 EE*4", {
+wrong!(the_first_source_written_to, "pb 1 1 bgra 0 0 00*4 EE*4", {
     fn finish(call: &mut Call, count: usize) -> i64 {
         let source = &call.slices()[0];
         source.write(0, !source.read(0));
@@ -992,7 +1115,7 @@ wrong!(the_first_source_written_to, "pb 1 1 0 0 00*4 EE*4", {
     }
 });
 
-wrong!(the_last_source_written_to, "pb 1 1 0 0 00*4 EE*4", {
+wrong!(the_last_source_written_to, "pb 1 1 bgra 0 0 00*4 EE*4", {
     fn finish(call: &mut Call, count: usize) -> i64 {
         if let [.., source] = call.slices() {
             source.write(call.full() - 1, !source.read(call.full() - 1));
@@ -1001,7 +1124,7 @@ wrong!(the_last_source_written_to, "pb 1 1 0 0 00*4 EE*4", {
     }
 });
 
-wrong!(a_byte_read_behind_the_first_source, "pb 1 1 0 0 00*4 EE*4", {
+wrong!(a_byte_read_behind_the_first_source, "pb 1 1 bgra 0 0 00*4 EE*4", {
     fn finish(call: &mut Call, count: usize) -> i64 {
         let source = &call.slices()[0];
         source.read(source.len);

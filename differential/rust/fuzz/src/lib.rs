@@ -6,8 +6,8 @@ mod sanitizer;
 
 use comparer::report::report;
 use comparer::shrink::shrink;
-use comparer::tally::Kind;
-use comparer::{Comparer, Extent};
+use comparer::tally::{Group, Kind};
+use comparer::Comparer;
 use edges::Edges;
 use reliability::case_from_bytes::case_from_bytes;
 use reliability::entry::Entry;
@@ -23,7 +23,7 @@ struct State {
     comparer: Comparer,
     edges: Edges,
     /// How the entry's cases are counted, once there was one.
-    counted: Option<(Extent, Kind)>,
+    counted: Option<(Group, Kind)>,
 }
 
 /// Made once at the start and kept to the end, for the report.
@@ -76,7 +76,7 @@ extern "C" fn print_report() {
     // SAFETY: made at the start, and nothing else uses it any more.
     let state = unsafe { &mut *STATE.load(Ordering::Relaxed) };
     let (name, tally) = (state.entry.name(), &state.comparer.tally);
-    let answers = state.counted.map_or(String::new(), |(extent, kind)| tally.answers_line(extent, kind));
+    let answers = state.counted.map_or(String::new(), |(group, kind)| tally.answers_line(group, kind));
     println!("fuzz: {name}: {} inputs, 0 different; {answers}", tally.total());
     println!("fuzz: {name}: {}", state.edges.report());
 }

@@ -1,8 +1,35 @@
 //! The picture encoder. It writes whole streams: its destination begins with the header byte, which only those functions of the library
 //! write that write whole streams too.
 
-use crate::rdp6::bitmap_stream::encoder::{BgrAChannels, BitmapEncodeError, BitmapStreamEncoder};
+use crate::rdp6::bitmap_stream::encoder::{
+    ABgrChannels, ARgbChannels, AlphaChannel, BgrAChannels, BitmapEncodeError, BitmapStreamEncoder, ColorChannels,
+    RgbAChannels,
+};
 use crate::{panics, Answer, Header};
+
+/// The layouts of four-byte pixels that IronRDP has a type for: its names have the channels in the order of the bytes.
+#[derive(Clone, Copy, Debug, PartialEq, Eq)]
+pub enum Layout {
+    BgrA,
+    RgbA,
+    ARgb,
+    ABgr,
+}
+
+impl Layout {
+    /// The places of R, G, B and A in a pixel, as IronRDP's types have them.
+    pub fn places(self) -> [usize; 4] {
+        fn of<L: ColorChannels + AlphaChannel>() -> [usize; 4] {
+            [L::R, L::G, L::B, L::A]
+        }
+        match self {
+            Layout::BgrA => of::<BgrAChannels>(),
+            Layout::RgbA => of::<RgbAChannels>(),
+            Layout::ARgb => of::<ARgbChannels>(),
+            Layout::ABgr => of::<ABgrChannels>(),
+        }
+    }
+}
 
 /// What IronRDP does with a picture that it is to pack.
 #[derive(Clone, Debug, PartialEq, Eq)]
@@ -56,19 +83,44 @@ pub fn encode_channels(
     })
 }
 
-/// `encode_bitmap` of pixels of B, G, R and A, or with alpha `encode_bitmap_alpha`. The destination may have been written to after
-/// an error or a panic too.
-pub fn encode_bitmap(pixels: &[u8], alpha: bool, dst: &mut [u8], rle: bool, width: usize, height: usize) -> Encoded {
+/// `encode_bitmap` of pixels of this layout, or with alpha `encode_bitmap_alpha`. The destination may have been written to after an error
+/// or a panic too.
+pub fn encode_bitmap(
+    layout: Layout,
+    pixels: &[u8],
+    alpha: bool,
+    dst: &mut [u8],
+    rle: bool,
+    width: usize,
+    height: usize,
+) -> Encoded {
+    let encode = match layout {
+        Layout::BgrA => encode_bitmap_of::<BgrAChannels>,
+        Layout::RgbA => encode_bitmap_of::<RgbAChannels>,
+        Layout::ARgb => encode_bitmap_of::<ARgbChannels>,
+        Layout::ABgr => encode_bitmap_of::<ABgrChannels>,
+    };
+    encode(pixels, alpha, dst, rle, width, height)
+}
+
+fn encode_bitmap_of<L: ColorChannels + AlphaChannel>(
+    pixels: &[u8],
+    alpha: bool,
+    dst: &mut [u8],
+    rle: bool,
+    width: usize,
+    height: usize,
+) -> Encoded {
     let mut encoder = BitmapStreamEncoder::new(width, height);
     encoded(dst, |dst| match alpha {
-        false => encoder.encode_bitmap::<BgrAChannels>(pixels, dst, rle),
-        true => encoder.encode_bitmap_alpha::<BgrAChannels>(pixels, dst, rle),
+        false => encoder.encode_bitmap::<L>(pixels, dst, rle),
+        true => encoder.encode_bitmap_alpha::<L>(pixels, dst, rle),
     })
 }
 
 #[cfg(test)]
 mod tests {
-    use super::{encode_bitmap, encode_channels, Encoded};
+    use super::{encode_bitmap, encode_channels, Encoded, Layout};
     use crate::{Answer, Definition, Header};
 
     fn header(rle: bool) -> Option<Header> {
@@ -79,14 +131,29 @@ mod tests {
     fn a_pixel_raw_and_rle_with_alpha_and_without() {
         let mut dst = [0; 10];
         let packed = |count, rle| Encoded { answer: Answer::Done(count), header: header(rle) };
-        assert_eq!(encode_bitmap(&[1, 2, 3, 4], false, &mut dst, false, 1, 1), packed(5, false));
+        assert_eq!(encode_bitmap(Layout::BgrA, &[1, 2, 3, 4], false, &mut dst, false, 1, 1), packed(5, false));
         assert_eq!(dst[..5], [0x20, 3, 2, 1, 0]);
-        assert_eq!(encode_bitmap(&[1, 2, 3, 4], true, &mut dst, true, 1, 1), packed(9, true));
+        assert_eq!(encode_bitmap(Layout::BgrA, &[1, 2, 3, 4], true, &mut dst, true, 1, 1), packed(9, true));
         assert_eq!(dst[..9], [0x30, 0x10, 4, 0x10, 3, 0x10, 2, 0x10, 1]);
         assert_eq!(encode_channels([&[3], &[2], &[1]], None, &mut dst, true, 1, 1), packed(7, true));
         assert_eq!(dst[1..7], [0x10, 3, 0x10, 2, 0x10, 1]);
         assert_eq!(encode_channels([&[3], &[2], &[1]], Some(&[4]), &mut dst, false, 1, 1), packed(6, false));
         assert_eq!(dst[..6], [0x20, 4, 3, 2, 1, 0]);
+    }
+
+    #[test]
+    fn a_pixel_of_each_layout() {
+        for (layout, pixel) in [
+            (Layout::BgrA, [1, 2, 3, 4]),
+            (Layout::RgbA, [3, 2, 1, 4]),
+            (Layout::ARgb, [4, 3, 2, 1]),
+            (Layout::ABgr, [4, 1, 2, 3]),
+        ] {
+            let mut dst = [0; 6];
+            assert_eq!(encode_bitmap(layout, &pixel, true, &mut dst, false, 1, 1).answer, Answer::Done(6));
+            assert_eq!(dst, [0x20, 4, 3, 2, 1, 0]);
+            assert_eq!(layout.places().map(|at| pixel[at]), [3, 2, 1, 4]);
+        }
     }
 
     #[test]

@@ -8,7 +8,7 @@ mod encoder;
 mod panics;
 mod picture;
 
-pub use encoder::{encode_bitmap, encode_channels, Encoded};
+pub use encoder::{encode_bitmap, encode_channels, Encoded, Layout};
 pub use picture::{decode, stream_decode, Definition, Header};
 
 use ironrdp_core::WriteCursor;

@@ -7,7 +7,7 @@ mod ffi;
 use comparer::encoding::check::Encoders;
 use comparer::picture::check::Pictures;
 use comparer::stream::check::Streams;
-use comparer::{Extent, Library};
+use comparer::{Extent, Format, Layout, Library};
 
 pub use ffi::*;
 
@@ -15,7 +15,14 @@ pub use ffi::*;
 pub const LIBRARY: Library = Library {
     unpack: rdp6_decompress_8bpp_plane,
     pack: rdp6_compress_8bpp_plane,
-    pictures: Pictures { decode: rdp6_decode, work_size: rdp6_work_size, image_size: rdp6_image_size },
+    pictures: Pictures {
+        decode: rdp6_decode,
+        work_size: rdp6_work_size,
+        image_size: rdp6_image_size,
+        decode_pixels: rdp6_decode_pixels,
+        pixels_work_size: rdp6_pixels_work_size,
+        pixels_image_size: rdp6_pixels_image_size,
+    },
     encoders: Encoders {
         channels: rdp6_encode_channels,
         channels_alpha: rdp6_encode_channels_alpha,
@@ -25,6 +32,8 @@ pub const LIBRARY: Library = Library {
     streams: Streams {
         decode: rdp6_stream_decode,
         work_size: rdp6_stream_work_size,
+        decode_pixels: rdp6_stream_decode_pixels,
+        pixels_work_size: rdp6_stream_pixels_work_size,
         encoders: Encoders {
             channels: rdp6_stream_encode_channels,
             channels_alpha: rdp6_stream_encode_channels_alpha,
@@ -56,8 +65,53 @@ pub struct Form {
     pub subsampled: bool,
 }
 
-/// Unpacking a picture.
-pub fn decode(form: Form, body: &[u8], work: &mut [u8], image: &mut [u8], width: usize, height: usize) -> i64 {
+/// Unpacking a picture to three bytes a pixel, or to four.
+pub fn decode(
+    format: Format,
+    form: Form,
+    body: &[u8],
+    work: &mut [u8],
+    image: &mut [u8],
+    width: usize,
+    height: usize,
+) -> i64 {
+    match format {
+        Format::Rgb24 => decode_rgb24(form, body, work, image, width, height),
+        Format::Pixels(layout) => decode_pixels(layout, form, body, work, image, width, height),
+    }
+}
+
+fn decode_pixels(
+    layout: Layout,
+    form: Form,
+    body: &[u8],
+    work: &mut [u8],
+    image: &mut [u8],
+    width: usize,
+    height: usize,
+) -> i64 {
+    // SAFETY: all three are valid during the call, and their lengths are right.
+    unsafe {
+        rdp6_decode_pixels(
+            form.rle,
+            form.alpha,
+            form.definition,
+            form.level,
+            form.subsampled,
+            layout.0,
+            body.as_ptr(),
+            body.len(),
+            work.as_mut_ptr(),
+            work.len(),
+            image.as_mut_ptr(),
+            image.len(),
+            width,
+            height,
+        )
+    }
+}
+
+fn decode_rgb24(form: Form, body: &[u8], work: &mut [u8], image: &mut [u8], width: usize, height: usize) -> i64 {
     // SAFETY: all three are valid during the call, and their lengths are right.
     unsafe {
         rdp6_decode(
@@ -78,17 +132,33 @@ pub fn decode(form: Form, body: &[u8], work: &mut [u8], image: &mut [u8], width:
     }
 }
 
-/// Unpacking a stream.
-pub fn stream_decode(stream: &[u8], work: &mut [u8], image: &mut [u8], width: usize, height: usize) -> i64 {
+/// Unpacking a stream to three bytes a pixel, or to four.
+pub fn stream_decode(
+    format: Format,
+    stream: &[u8],
+    work: &mut [u8],
+    image: &mut [u8],
+    width: usize,
+    height: usize,
+) -> i64 {
+    let (at, len) = (stream.as_ptr(), stream.len());
     let (work_at, work_len, image_at, image_len) = (work.as_mut_ptr(), work.len(), image.as_mut_ptr(), image.len());
     // SAFETY: all three are valid during the call, and their lengths are right.
-    unsafe { rdp6_stream_decode(stream.as_ptr(), stream.len(), work_at, work_len, image_at, image_len, width, height) }
+    unsafe {
+        match format {
+            Format::Rgb24 => rdp6_stream_decode(at, len, work_at, work_len, image_at, image_len, width, height),
+            Format::Pixels(Layout(layout)) => {
+                rdp6_stream_decode_pixels(layout, at, len, work_at, work_len, image_at, image_len, width, height)
+            }
+        }
+    }
 }
 
-/// The minimum length of a stream's work area.
-pub fn stream_work_size(stream: &[u8], width: usize, height: usize) -> usize {
+/// The minimum length of a stream's work area, for three bytes a pixel or for four.
+pub fn stream_work_size(four_bytes: bool, stream: &[u8], width: usize, height: usize) -> usize {
+    let work_size = if four_bytes { rdp6_stream_pixels_work_size } else { rdp6_stream_work_size };
     // SAFETY: it is valid during the call, and its length is right.
-    unsafe { rdp6_stream_work_size(stream.as_ptr(), stream.len(), width, height) }
+    unsafe { work_size(stream.as_ptr(), stream.len(), width, height) }
 }
 
 /// Packing a picture from channels: R, G and B, and A if there is one.
@@ -119,7 +189,7 @@ pub fn encode_channels(
 /// Packing a picture from pixels.
 pub fn encode_bitmap(
     extent: Extent,
-    pixels: &[u8],
+    (pixels, layout): (&[u8], Layout),
     alpha: bool,
     dst: &mut [u8],
     rle: bool,
@@ -129,5 +199,5 @@ pub fn encode_bitmap(
     let Encoders { bitmap, bitmap_alpha, .. } = LIBRARY.encoders(extent);
     let encode = if alpha { bitmap_alpha } else { bitmap };
     // SAFETY: both are valid during the call, and their lengths are right.
-    unsafe { encode(pixels.as_ptr(), pixels.len(), dst.as_mut_ptr(), dst.len(), rle, width, height) }
+    unsafe { encode(layout.0, pixels.as_ptr(), pixels.len(), dst.as_mut_ptr(), dst.len(), rle, width, height) }
 }

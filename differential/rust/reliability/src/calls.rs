@@ -78,7 +78,9 @@ impl Caller {
             Input::Picture(case) => [self.call_decoder(case), 0],
             Input::Sizes(case) => call_sizes(case),
             Input::Stream(case) => [self.call_stream_decoder(case), 0],
-            Input::StreamSize(case) => [ours::stream_work_size(&case.stream, case.width, case.height) as i64, 0],
+            Input::StreamSize(case) => {
+                [ours::stream_work_size(case.four_bytes, &case.stream, case.width, case.height) as i64, 0]
+            }
             Input::Encoding(case) => [self.call_encoder(case), 0],
             Input::Prefix(_) => unreachable!("a case of the prefix theorem is no single call"),
         }
@@ -97,13 +99,13 @@ impl Caller {
         fill(&mut self.image, &case.image);
         let comparer::picture::Form { rle, alpha, definition, level, subsampled } = case.form;
         let form = ours::Form { rle, alpha, definition, level, subsampled };
-        ours::decode(form, &case.body, &mut self.work, &mut self.image, case.width, case.height)
+        ours::decode(case.format, form, &case.body, &mut self.work, &mut self.image, case.width, case.height)
     }
 
     fn call_stream_decoder(&mut self, case: &OwnedStream) -> i64 {
         fill(&mut self.work, &case.work);
         fill(&mut self.image, &case.image);
-        ours::stream_decode(&case.stream, &mut self.work, &mut self.image, case.width, case.height)
+        ours::stream_decode(case.format, &case.stream, &mut self.work, &mut self.image, case.width, case.height)
     }
 
     fn call_encoder(&mut self, case: &OwnedEncoding) -> i64 {
@@ -114,19 +116,16 @@ impl Caller {
             Sources::Channels { colours, alpha } => {
                 ours::encode_channels(extent, colours, alpha, dst, rle, width, height)
             }
-            Sources::Pixels { pixels, alpha } => ours::encode_bitmap(extent, pixels, alpha, dst, rle, width, height),
+            Sources::Pixels { pixels, layout, alpha } => {
+                ours::encode_bitmap(extent, (pixels, layout), alpha, dst, rle, width, height)
+            }
         }
     }
 }
 
 fn call_sizes(case: &Sizes) -> Answers {
-    let Sizes { width, height, rle, definition, subsampled } = *case;
-    let pictures = LIBRARY.pictures;
-    // SAFETY: no pointer is passed.
-    unsafe {
-        let work = (pictures.work_size)(rle, definition, subsampled, width, height);
-        [work as i64, (pictures.image_size)(width, height) as i64]
-    }
+    let (work, image) = LIBRARY.pictures.sizes(case);
+    [work as i64, image as i64]
 }
 
 #[cfg(test)]

@@ -8,7 +8,7 @@ use comparer::picture::{Form, OwnedPicture, Sizes};
 use comparer::planes::counts;
 use comparer::stream::header::{form_of, joined};
 use comparer::stream::{OwnedStream, OwnedStreamSize};
-use comparer::{Extent, Input, Owned};
+use comparer::{Extent, Format, Input, Layout, Owned};
 
 /// A plane inside the domain has at most so many samples, so that no case takes long.
 const MOST_SAMPLES: usize = 1 << 13;
@@ -22,14 +22,18 @@ pub fn case_from_bytes(entry: Entry, bytes: &[u8]) -> Input {
     match entry {
         Entry::Unpack => maker.unpack(),
         Entry::Pack => maker.pack(),
-        Entry::Decode => maker.decode(),
-        Entry::Sizes => maker.sizes(),
+        Entry::Decode => maker.decode(false),
+        Entry::Sizes => maker.sizes(false),
+        Entry::DecodePixels => maker.decode(true),
+        Entry::PixelsSizes => maker.sizes(true),
         Entry::Channels => maker.channels(Extent::Body, false),
         Entry::ChannelsAlpha => maker.channels(Extent::Body, true),
         Entry::Bitmap => maker.bitmap(Extent::Body, false),
         Entry::BitmapAlpha => maker.bitmap(Extent::Body, true),
-        Entry::StreamDecode => maker.stream_decode(),
-        Entry::StreamWorkSize => maker.stream_work_size(),
+        Entry::StreamDecode => maker.stream_decode(false),
+        Entry::StreamWorkSize => maker.stream_work_size(false),
+        Entry::StreamDecodePixels => maker.stream_decode(true),
+        Entry::StreamPixelsWorkSize => maker.stream_work_size(true),
         Entry::StreamChannels => maker.channels(Extent::Stream, false),
         Entry::StreamChannelsAlpha => maker.channels(Extent::Stream, true),
         Entry::StreamBitmap => maker.bitmap(Extent::Stream, false),
@@ -202,32 +206,50 @@ impl CaseMaker<'_> {
         Form { rle: flag(0), alpha: flag(1), definition, level, subsampled: flag(2) }
     }
 
-    fn decode(&mut self) -> Input {
-        let (form, sides) = (self.form(), self.sides());
-        Input::Picture(self.picture(form, sides))
+    /// Mostly a layout that there is, sometimes another, also such as does not fit a byte.
+    fn layout(&mut self) -> Layout {
+        let byte = self.byte();
+        Layout(match byte {
+            0..=215 => u32::from(byte % 4),
+            216..=223 => u32::from(byte),
+            _ => wide_number(byte),
+        })
+    }
+
+    fn format(&mut self, four_bytes: bool) -> Format {
+        if four_bytes {
+            Format::Pixels(self.layout())
+        } else {
+            Format::Rgb24
+        }
+    }
+
+    fn decode(&mut self, four_bytes: bool) -> Input {
+        let (form, format, sides) = (self.form(), self.format(four_bytes), self.sides());
+        Input::Picture(self.picture(form, format, sides))
     }
 
     /// Mostly a complete stream, with any header byte, sometimes its first bytes alone.
-    fn stream_decode(&mut self) -> Input {
-        let (header, sides, cut) = (self.byte(), self.sides(), self.byte());
+    fn stream_decode(&mut self, four_bytes: bool) -> Input {
+        let (header, format, sides, cut) = (self.byte(), self.format(four_bytes), self.sides(), self.byte());
         let form = form_of(header);
-        let OwnedPicture { width, height, body, work, image, .. } = self.picture(form, sides);
+        let OwnedPicture { width, height, body, work, image, .. } = self.picture(form, format, sides);
         let mut stream = joined(form, header, &body, cut).expect("every byte has a form");
         if cut >= 232 {
             stream.truncate(usize::from(cut % 4));
         }
-        Input::Stream(OwnedStream { width, height, stream, work, image })
+        Input::Stream(OwnedStream { width, height, format, stream, work, image })
     }
 
     /// A picture of a form and of sides.
-    fn picture(&mut self, form: Form, (width, height): (usize, usize)) -> OwnedPicture {
+    fn picture(&mut self, form: Form, format: Format, (width, height): (usize, usize)) -> OwnedPicture {
         let inside = is_inside(width, height);
         let (min_work, min_body) = match inside {
-            true => (form.work_len(width, height), form.min_body(width, height)),
+            true => (form.work_len(format, width, height), form.min_body(width, height)),
             false => (SOME, SOME),
         };
         let work_len = self.length(min_work);
-        let image_len = self.length(3 * samples(width, height));
+        let image_len = self.length(format.bytes() * samples(width, height));
         let body_len = self.byte();
         let (work, image) = (self.before(work_len), self.before(image_len));
         let body = if form.rle && inside {
@@ -236,20 +258,21 @@ impl CaseMaker<'_> {
             let len = with_byte(body_len, |maker| maker.length(min_body));
             self.bytes(len)
         };
-        OwnedPicture { width, height, form, body, work, image }
+        OwnedPicture { width, height, form, format, body, work, image }
     }
 
-    fn sizes(&mut self) -> Input {
-        let Form { rle, definition, subsampled, .. } = self.form();
+    fn sizes(&mut self, four_bytes: bool) -> Input {
+        let Form { rle, alpha, definition, subsampled, .. } = self.form();
         let (width, height) = self.any_sides();
-        Input::Sizes(Sizes { width, height, rle, definition, subsampled })
+        let alpha = four_bytes.then_some(alpha);
+        Input::Sizes(Sizes { width, height, rle, alpha, definition, subsampled })
     }
 
     /// A stream of up to three bytes.
-    fn stream_work_size(&mut self) -> Input {
+    fn stream_work_size(&mut self, four_bytes: bool) -> Input {
         let len = usize::from(self.byte() % 4);
         let (width, height) = self.any_sides();
-        Input::StreamSize(OwnedStreamSize { width, height, stream: self.bytes(len) })
+        Input::StreamSize(OwnedStreamSize { width, height, four_bytes, stream: self.bytes(len) })
     }
 
     /// Sides of which buffers need not be made.
@@ -276,11 +299,11 @@ impl CaseMaker<'_> {
     }
 
     fn bitmap(&mut self, extent: Extent, alpha: bool) -> Input {
-        let (rle, (width, height)) = (self.byte() & 3 != 0, self.sides());
+        let (rle, layout, (width, height)) = (self.byte() & 3 != 0, self.layout(), self.sides());
         let len = self.length(4 * samples(width, height));
         let (by_packing, room, seed) = (self.byte() & 1 == 0, self.byte(), self.byte());
         let pixels = self.bytes(len);
-        let sources = Sources::Pixels { pixels, alpha };
+        let sources = Sources::Pixels { pixels, layout, alpha };
         encoding(Encoding { extent, width, height, rle, sources, before: Vec::new() }, (by_packing, room, seed))
     }
 }
@@ -350,7 +373,7 @@ fn encoding(case: OwnedEncoding, (by_packing, room, seed): (bool, u8, u8)) -> In
 mod tests {
     use super::case_from_bytes;
     use crate::entry::{Entry, ENTRIES};
-    use comparer::{Input, Rng};
+    use comparer::{Format, Input, Rng};
     use std::collections::BTreeSet;
 
     /// Any bytes make a case, and the case's text is read as the same case.
@@ -380,6 +403,36 @@ mod tests {
         }
         assert!(headers.len() > 200, "{} header bytes", headers.len());
         assert!([None, Some(13), Some(14)].iter().all(|answer| refused.contains(answer)), "{refused:?}");
+    }
+
+    /// Of a packer from pixels the second byte chooses the layout, of four-byte pixels the fourth, of a stream the second.
+    #[test]
+    fn layouts_of_every_width_are_reached() {
+        let (mut packed, mut unpacked, mut streams) = (BTreeSet::new(), BTreeSet::new(), BTreeSet::new());
+        for byte in 0..=255 {
+            let Input::Encoding(case) = case_from_bytes(Entry::Bitmap, &[0, byte]) else { panic!("no packing") };
+            packed.extend(case.sources.layout().map(|layout| layout.0));
+            let Input::Picture(case) = case_from_bytes(Entry::DecodePixels, &[0, 0, 0, byte]) else {
+                panic!("no picture")
+            };
+            unpacked.insert(number(case.format));
+            let Input::Stream(case) = case_from_bytes(Entry::StreamDecodePixels, &[0, byte]) else {
+                panic!("no stream")
+            };
+            streams.insert(number(case.format));
+        }
+        for layout in [0, 1, 2, 3, 216, 223, 256, 257, 65_536, 65_537, 1 << 31, u32::MAX - 1, u32::MAX] {
+            let reached = [&packed, &unpacked, &streams].iter().all(|layouts| layouts.contains(&layout));
+            assert!(reached, "no layout {layout}");
+        }
+    }
+
+    /// The number of a format's layout.
+    fn number(format: Format) -> u32 {
+        match format {
+            Format::Pixels(layout) => layout.0,
+            Format::Rgb24 => panic!("three bytes"),
+        }
     }
 
     /// The second byte chooses the definition, the third one the level.

@@ -54,7 +54,7 @@ fn replay_entry(entry: Entry, folder: &Path) -> Result<u64, String> {
             return Err(format!("replay: FAILED at {}\n{}", path.display(), report(&shrunk, "difference.txt")));
         }
     }
-    let answers = counted.map_or(String::new(), |(extent, kind)| comparer.tally.answers_line(extent, kind));
+    let answers = counted.map_or(String::new(), |(group, kind)| comparer.tally.answers_line(group, kind));
     println!("replay: {}: {answers}", entry.name());
     Ok(comparer.tally.total())
 }

@@ -6,22 +6,24 @@ pub mod entry;
 pub mod mix;
 pub mod system;
 
-use comparer::tally::Kind;
-use comparer::{Comparer, Extent, Input, Outcome};
+use comparer::tally::{Group, Kind};
+use comparer::{Comparer, Extent, Format, Input, Outcome};
 
 pub use ours::LIBRARY;
 
-/// The extent and the kind under which the comparer counts a case.
-pub fn counted_as(input: &Input) -> (Extent, Kind) {
+/// The group and the kind under which the comparer counts a case.
+pub fn counted_as(input: &Input) -> (Group, Kind) {
     match input {
-        Input::Call(case) if case.operation == comparer::case::Operation::Unpack => (Extent::Body, Kind::Noise),
-        Input::Call(_) => (Extent::Body, Kind::RandomPlanes),
-        Input::Picture(_) => (Extent::Body, Kind::RandomBodies),
-        Input::Sizes(_) => (Extent::Body, Kind::SizesTable),
-        Input::Stream(_) => (Extent::Stream, Kind::RandomStreams),
-        Input::StreamSize(_) => (Extent::Stream, Kind::SizesTable),
-        Input::Encoding(case) => (case.extent, Kind::RandomEncodings),
-        Input::Prefix(_) => (Extent::Body, Kind::PrefixRandom),
+        Input::Call(case) if case.operation == comparer::case::Operation::Unpack => (Group::Bodies, Kind::Noise),
+        Input::Call(_) => (Group::Bodies, Kind::RandomPlanes),
+        Input::Picture(case) => (Group::of(Extent::Body, case.format), Kind::RandomBodies),
+        Input::Sizes(case) if case.alpha.is_some() => (Group::Pixels, Kind::SizesTable),
+        Input::Sizes(_) => (Group::Bodies, Kind::SizesTable),
+        Input::Stream(case) => (Group::of(Extent::Stream, case.format), Kind::RandomStreams),
+        Input::StreamSize(case) if case.four_bytes => (Group::StreamPixels, Kind::SizesTable),
+        Input::StreamSize(_) => (Group::Streams, Kind::SizesTable),
+        Input::Encoding(case) => (Group::of(case.extent, Format::Rgb24), Kind::RandomEncodings),
+        Input::Prefix(_) => (Group::Bodies, Kind::PrefixRandom),
     }
 }
 

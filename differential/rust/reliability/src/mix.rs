@@ -5,7 +5,7 @@ use crate::entry::{Entry, ENTRIES};
 use comparer::{Input, Rng};
 
 /// The bytes in front that choose sides, lengths and forms.
-const CHOOSING: usize = 14;
+const CHOOSING: usize = 15;
 
 pub struct Mix {
     rng: Rng,

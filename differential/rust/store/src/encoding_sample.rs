@@ -5,6 +5,7 @@ use crate::{BEFORE, LONGEST};
 use comparer::encoding::examples;
 use comparer::encoding::given::{form, ALPHAS, FORMS};
 use comparer::encoding::{OwnedEncoding, Sources};
+use comparer::layout::LAYOUTS;
 use comparer::picture::Planes;
 use comparer::planes::{segment_starts, PlaneKind, PLANE_KINDS, WIDTHS};
 use comparer::{Extent, Rng};
@@ -28,6 +29,25 @@ pub fn keep_all(stored: &mut Encodings) {
         }
     }
     wide_and_tall(stored);
+    if stored.entry == Entry::Bitmap {
+        other_layouts(stored, &mut Rng::new(6));
+    }
+}
+
+/// Small pictures of the layouts that the others do not have; of bodies also rows of as many pixels as a packer may read at once.
+fn other_layouts(stored: &mut Encodings, rng: &mut Rng) {
+    let most = if stored.extent == Extent::Body { 3 } else { 2 };
+    let small = (1..=most).flat_map(|width| (1..=most).map(move |height| (width, height)));
+    let wide = [(15, 1), (16, 2), (17, 1), (63, 1), (64, 1), (65, 1), (255, 1), (256, 1), (257, 1)];
+    let wide = wide.into_iter().filter(|_| stored.extent == Extent::Body).collect::<Vec<_>>();
+    for (sides, layout) in small.chain(wide).flat_map(|sides| LAYOUTS[1..].iter().map(move |&layout| (sides, layout))) {
+        for (rle, alpha) in forms() {
+            let kinds = if sides.0 < 60 { &PLANE_KINDS[..] } else { &[PlaneKind::Runs] };
+            let planes = Planes::with_kinds(rng, form(alpha), sides, kinds);
+            let sources = stored.sources_in(&planes, layout);
+            keep_with_and_without_room(stored, rng, rle, sides, &sources);
+        }
+    }
 }
 
 /// Small inputs with known answers, as far as they are of this entry and inside the domain.
@@ -151,6 +171,6 @@ fn wide_and_tall(stored: &mut Encodings) {
 fn without_alpha(sources: Sources<Vec<u8>>) -> Sources<Vec<u8>> {
     match sources {
         Sources::Channels { colours, .. } => Sources::Channels { colours, alpha: None },
-        Sources::Pixels { pixels, .. } => Sources::Pixels { pixels, alpha: false },
+        Sources::Pixels { pixels, layout, .. } => Sources::Pixels { pixels, layout, alpha: false },
     }
 }

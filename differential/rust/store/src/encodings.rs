@@ -7,9 +7,10 @@ use comparer::encoding::case::OwnedEncoding;
 use comparer::encoding::check::record;
 use comparer::encoding::given::{channels, given, pixels};
 use comparer::encoding::{Encoding, Sources};
+use comparer::layout::BGRA;
 use comparer::picture::case::ARGB;
 use comparer::picture::Planes;
-use comparer::Extent;
+use comparer::{Extent, Layout};
 use original::{Answer, Definition, Header};
 
 /// Which entries are stored.
@@ -38,12 +39,17 @@ fn flag(set: bool) -> u8 {
 }
 
 impl Encodings {
-    /// The planes as this entry takes them.
-    pub fn sources(&self, planes: &Planes) -> Sources<Vec<u8>> {
+    /// The planes as this entry takes them; pixels have this layout.
+    pub fn sources_in(&self, planes: &Planes, layout: Layout) -> Sources<Vec<u8>> {
         match self.entry {
             Entry::Channels => channels(planes),
-            Entry::Bitmap => pixels(planes),
+            Entry::Bitmap => pixels(planes, layout),
         }
+    }
+
+    /// The same, as B, G, R and A.
+    pub fn sources(&self, planes: &Planes) -> Sources<Vec<u8>> {
+        self.sources_in(planes, BGRA)
     }
 
     /// The picture that this entry is given, without a destination.
@@ -70,7 +76,7 @@ impl Encodings {
         assert!(longest.max(Some(case.before.len())) <= Some(LONGEST), "a case that is too long");
         let mut after = Vec::new();
         case.view().fill_destination(&mut after);
-        let encoded = case.view().by_ironrdp(&mut after);
+        let encoded = case.view().by_ironrdp(&mut after).expect("a layout that IronRDP has");
         let header = encoded.header;
         assert!(header == Some(record(case.rle)) || after.is_empty(), "another record: {header:?}");
         let answer = case.view().answer(encoded);
@@ -88,7 +94,8 @@ impl Encodings {
         let numbers = format!("{} {number}{sent}", case.before.len());
         let form = format!("{} {}", flag(case.rle), flag(case.sources.has_alpha()));
         let bytes = format!("{} {}", sources_text(&case.sources), bytes::text(after));
-        add(&mut self.lines, format!("{} {} {form} {numbers} {bytes}\n", case.width, case.height));
+        let layout = case.sources.layout().map_or(String::new(), |layout| format!(" {}", layout.0));
+        add(&mut self.lines, format!("{} {}{layout} {form} {numbers} {bytes}\n", case.width, case.height));
     }
 }
 

@@ -10,14 +10,20 @@
 //! two for packing of pictures, from channels and from pixels,
 //!
 //!   WIDTH HEIGHT RLE ALPHA ROOM ANSWER SENTRLE SENTALPHA SENTDEFINITION R G B A AFTER
-//!   WIDTH HEIGHT RLE ALPHA ROOM ANSWER SENTRLE SENTALPHA SENTDEFINITION PIXELS AFTER
+//!   WIDTH HEIGHT LAYOUT RLE ALPHA ROOM ANSWER SENTRLE SENTALPHA SENTDEFINITION PIXELS AFTER
 //!
 //! and the same of whole streams,
 //!
 //!   WIDTH HEIGHT WORKROOM IMAGEROOM WORKSIZE ANSWER STREAM WORK-AFTER IMAGE-AFTER
 //!   WIDTH HEIGHT RLE ALPHA ROOM ANSWER R G B A AFTER
-//!   WIDTH HEIGHT RLE ALPHA ROOM ANSWER PIXELS AFTER
+//!   WIDTH HEIGHT LAYOUT RLE ALPHA ROOM ANSWER PIXELS AFTER
 //!
+//! Bodies and streams are unpacked to four-byte pixels in two more,
+//!
+//!   WIDTH HEIGHT RLE ALPHA DEFINITION LEVEL SUBSAMPLED LAYOUT WORKROOM IMAGEROOM ANSWER BODY WORK-AFTER IMAGE-AFTER
+//!   WIDTH HEIGHT LAYOUT WORKROOM IMAGEROOM WORKSIZE ANSWER STREAM WORK-AFTER IMAGE-AFTER
+//!
+//! which have IronRDP's three bytes of each pixel and its alpha plane: it has no function that gives both.
 //! WORKSIZE, the first byte of a stream's destination after a refusal, and the refusals 13 and 14 are not IronRDP's but FORMAT's.
 //! docs/TESTS.md has the format. The samples are the same in every run. `USAGE` has the command line.
 
@@ -105,7 +111,7 @@ impl Stored {
 /// A file, in the folder of the program that replays it, and what makes its lines.
 type Sample = (&'static str, fn() -> Lines);
 
-const SAMPLES: [Sample; 10] = [
+const SAMPLES: [Sample; 12] = [
     ("plane_vectors/data/plane-unpack.txt", || Stored::lines_of(Operation::Unpack, sample::keep_all)),
     ("plane_vectors/data/plane-unpack-boundaries.txt", || {
         Stored::lines_of(Operation::Unpack, boundary_sample::keep_all)
@@ -116,6 +122,8 @@ const SAMPLES: [Sample; 10] = [
     }),
     ("picture_vectors/data/picture-unpack.txt", pictures::lines),
     ("picture_vectors/data/stream-unpack.txt", streams::lines),
+    ("picture_vectors/data/pixels-unpack.txt", pictures::pixels_lines),
+    ("picture_vectors/data/stream-pixels-unpack.txt", streams::pixels_lines),
     ("encode_vectors/data/channels-pack.txt", || encodings::lines(Entry::Channels, Extent::Body)),
     ("encode_vectors/data/bitmap-pack.txt", || encodings::lines(Entry::Bitmap, Extent::Body)),
     ("encode_vectors/data/stream-channels-pack.txt", || encodings::lines(Entry::Channels, Extent::Stream)),

@@ -2,7 +2,7 @@
 
 use crate::pictures::Pictures;
 use crate::BEFORE;
-use comparer::picture::examples::EXAMPLES;
+use comparer::picture::examples::{EXAMPLES, PIXELS_EXAMPLES};
 use comparer::picture::refused::{few_forms, FLAGS};
 use comparer::picture::{Form, OwnedPicture, Planes};
 use comparer::planes::{self, segment_starts, Making, PlaneKind, PLANE_KINDS, WIDTHS};
@@ -22,9 +22,65 @@ pub fn keep_all(stored: &mut Pictures) {
     refused_planes(stored, &mut Rng::new(9));
 }
 
+/// The same of four-byte pixels, fewer: their planes are unpacked as those of the other file.
+pub fn keep_pixels(stored: &mut Pictures) {
+    examples_of(stored, PIXELS_EXAMPLES.iter().map(|example| example.0));
+    every_layout(stored, &mut Rng::new(21));
+    every_form_once(stored, &mut Rng::new(22));
+    body_lengths_of(stored, &mut Rng::new(23), &[(3, 3)]);
+    truncated_of(stored, &mut Rng::new(24), &[(2, 2)]);
+    refused_planes(stored, &mut Rng::new(25));
+    array_widths(stored);
+}
+
+/// Every form that is much like no other, in every layout.
+fn every_layout(stored: &mut Pictures, rng: &mut Rng) {
+    for form in forms(rng) {
+        let body = Planes::with_kinds(rng, form, (3, 2), &[PlaneKind::Noise]).body(form, 3, 2);
+        stored.keep_in_all(form, (3, 2), &body);
+    }
+}
+
+/// Every flag, definition, level and subsampling, at sides that change from one to the next.
+fn every_form_once(stored: &mut Pictures, rng: &mut Rng) {
+    let sides = [(1, 1), (2, 3), (3, 3), (4, 1), (1, 5), (5, 4)];
+    for (at, (rle, alpha)) in FLAGS.into_iter().enumerate() {
+        for level in 1..=7 {
+            for subsampled in [false, true] {
+                let form = Form::aycocg(rle, alpha, level, subsampled);
+                let (width, height) = sides[(at + level as usize + usize::from(subsampled) * 3) % sides.len()];
+                let body = Planes::random(rng, form, width, height).body(form, width, height);
+                stored.keep_somehow(form, (width, height), &body);
+            }
+        }
+    }
+}
+
+/// Rows of about 256 pixels and longer ones, all of whose bytes are `FF`, alpha too, but for the last sample, so that lines are short.
+fn array_widths(stored: &mut Pictures) {
+    for (width, form) in [255, 256, 257, 4096].into_iter().flat_map(|width| few_forms().map(move |form| (width, form)))
+    {
+        let height = if width < 300 { 2 + width % 2 } else { 1 };
+        let chroma = form.chroma_sides(width, height);
+        let plane = |(width, height): (usize, usize), value: u8, last: u8| {
+            let mut plane = vec![value; width * height];
+            plane[width * height - 1] = last;
+            plane
+        };
+        let grey = if form.definition == 0 { 255 } else { 0 };
+        let colours = [plane((width, height), 255, 40), plane(chroma, grey, 5), plane(chroma, grey, 250)];
+        let planes = Planes { alpha: form.alpha.then(|| plane((width, height), 255, 77)), colours };
+        stored.keep_somehow(form, (width, height), &planes.body(form, width, height));
+    }
+}
+
 /// The examples of FORMAT 10 and the like, as far as they are inside the domain, with buffers that hold `EE`.
 fn examples(stored: &mut Pictures) {
-    let cases = EXAMPLES.iter().map(|example| OwnedPicture::parse(example.0).expect("the table's own text"));
+    examples_of(stored, EXAMPLES.iter().map(|example| example.0));
+}
+
+fn examples_of(stored: &mut Pictures, texts: impl Iterator<Item = &'static str>) {
+    let cases = texts.map(|text| OwnedPicture::parse(text).expect("the table's own text"));
     for mut case in cases.filter(|case| case.view().refused_outside().is_none()) {
         case.work.fill(BEFORE);
         case.image.fill(BEFORE);
@@ -85,7 +141,11 @@ fn boundary_colours(stored: &mut Pictures, rng: &mut Rng) {
 
 /// Bodies around their minimum size and around their end, and with bytes following.
 fn body_lengths(stored: &mut Pictures, rng: &mut Rng) {
-    for (width, height) in [(1, 1), (3, 2), (2, 5), (48, 1)] {
+    body_lengths_of(stored, rng, &[(1, 1), (3, 2), (2, 5), (48, 1)]);
+}
+
+fn body_lengths_of(stored: &mut Pictures, rng: &mut Rng, sides: &[(usize, usize)]) {
+    for &(width, height) in sides {
         for form in forms(rng) {
             let mut body = Planes::with_kinds(rng, form, (width, height), &[PlaneKind::Runs]).body(form, width, height);
             let (min, complete) = (form.min_body(width, height), body.len());
@@ -99,7 +159,11 @@ fn body_lengths(stored: &mut Pictures, rng: &mut Rng) {
 
 /// Every prefix of some RLE bodies.
 fn truncated_bodies(stored: &mut Pictures, rng: &mut Rng) {
-    for (width, height) in [(1, 1), (2, 2), (3, 2), (5, 1), (17, 1)] {
+    truncated_of(stored, rng, &[(1, 1), (2, 2), (3, 2), (5, 1), (17, 1)]);
+}
+
+fn truncated_of(stored: &mut Pictures, rng: &mut Rng, sides: &[(usize, usize)]) {
+    for &(width, height) in sides {
         for form in forms(rng).into_iter().filter(|form| form.rle) {
             let plane_kind = *rng.pick(&[PlaneKind::FewValues, PlaneKind::Noise]);
             let body = Planes::with_kinds(rng, form, (width, height), &[plane_kind]).body(form, width, height);

@@ -1,9 +1,10 @@
-//! Asks IronRDP for pictures and keeps its answers.
+//! Asks IronRDP for pictures and keeps its answers; for four-byte pixels its three bytes of each pixel and its alpha plane.
 
 use crate::{picture_sample, Lines, BEFORE};
 use comparer::bytes;
+use comparer::layout::LAYOUTS;
 use comparer::picture::{Form, OwnedPicture};
-use comparer::Rng;
+use comparer::{Format, Layout, Rng};
 use original::Answer;
 
 /// Longer lines are left out.
@@ -13,6 +14,7 @@ const LONGEST_LINE: usize = 1000;
 pub struct Pictures {
     lines: Lines,
     rng: Rng,
+    four_bytes: bool,
 }
 
 /// IronRDP's answer as a number, and what the work area and the image hold then.
@@ -52,9 +54,24 @@ pub fn add(lines: &mut Lines, line: String) {
 
 /// The lines of all cases.
 pub fn lines() -> Lines {
-    let mut stored = Pictures { lines: Lines::default(), rng: Rng::new(9) };
+    let mut stored = Pictures { lines: Lines::default(), rng: Rng::new(9), four_bytes: false };
     picture_sample::keep_all(&mut stored);
     stored.lines
+}
+
+/// The same of four-byte pixels.
+pub fn pixels_lines() -> Lines {
+    let mut stored = Pictures { lines: Lines::default(), rng: Rng::new(11), four_bytes: true };
+    picture_sample::keep_pixels(&mut stored);
+    stored.lines
+}
+
+/// A field of a line for the layout of four-byte pixels, with a space in front.
+pub fn layout_text(format: Format) -> String {
+    match format {
+        Format::Rgb24 => String::new(),
+        Format::Pixels(layout) => format!(" {}", layout.0),
+    }
 }
 
 fn flag(set: bool) -> u8 {
@@ -63,16 +80,39 @@ fn flag(set: bool) -> u8 {
 
 impl Pictures {
     /// A work area and an image as long as needed, or longer by these.
-    pub fn keep(&mut self, form: Form, (width, height): (usize, usize), body: &[u8], (work, image): (usize, usize)) {
-        let work = vec![BEFORE; form.work_len(width, height) + work];
-        let image = vec![BEFORE; 3 * width * height + image];
-        self.keep_case(&OwnedPicture { width, height, form, body: body.to_vec(), work, image });
+    pub fn keep(
+        &mut self,
+        (form, format): (Form, Format),
+        (width, height): (usize, usize),
+        body: &[u8],
+        (work, image): (usize, usize),
+    ) {
+        let work = vec![BEFORE; form.work_len(format, width, height) + work];
+        let image = vec![BEFORE; format.bytes() * width * height + image];
+        self.keep_case(&OwnedPicture { width, height, form, format, body: body.to_vec(), work, image });
     }
 
-    /// The same, the lengths chosen.
+    /// In each layout, with no byte to spare.
+    pub fn keep_in_all(&mut self, form: Form, sides: (usize, usize), body: &[u8]) {
+        for layout in LAYOUTS {
+            self.keep((form, Format::Pixels(layout)), sides, body, (0, 0));
+        }
+    }
+
+    /// A layout, chosen.
+    fn format(&mut self) -> Format {
+        if self.four_bytes {
+            Format::Pixels(Layout(self.rng.below(4) as u32))
+        } else {
+            Format::Rgb24
+        }
+    }
+
+    /// The same, the lengths and the layout chosen.
     pub fn keep_somehow(&mut self, form: Form, sides: (usize, usize), body: &[u8]) {
         let more = [0; 2].map(|_| *self.rng.pick(&[0, 0, 0, 1, 2, 5]));
-        self.keep(form, sides, body, (more[0], more[1]));
+        let format = self.format();
+        self.keep((form, format), sides, body, (more[0], more[1]));
     }
 
     /// Asks IronRDP and keeps its answer.
@@ -84,7 +124,7 @@ impl Pictures {
         let Form { rle, alpha, definition, level, subsampled } = case.form;
         let flags = format!("{} {} {definition} {level} {}", flag(rle), flag(alpha), flag(subsampled));
         let bytes = [&case.body, &asked.work, &asked.image].map(|some| bytes::text(some)).join(" ");
-        let (rooms, number) = (asked.rooms(), asked.number);
-        add(&mut self.lines, format!("{} {} {flags} {rooms} {number} {bytes}\n", case.width, case.height));
+        let (layout, rooms, number) = (layout_text(case.format), asked.rooms(), asked.number);
+        add(&mut self.lines, format!("{} {} {flags}{layout} {rooms} {number} {bytes}\n", case.width, case.height));
     }
 }

@@ -5,22 +5,22 @@ use crate::BEFORE;
 use comparer::picture::refused::few_forms;
 use comparer::picture::{Form, Planes};
 use comparer::planes::PlaneKind;
-use comparer::stream::examples::EXAMPLES;
+use comparer::stream::examples::Example;
 use comparer::stream::header::{form_of, joined};
 use comparer::stream::OwnedStream;
 use comparer::Rng;
 
 /// All parts, each with random numbers of its own, so that a change in one leaves the others as they are.
-pub fn keep_all(stored: &mut Streams) {
-    examples(stored);
+pub fn keep_all(stored: &mut Streams, known: &[Example]) {
+    examples(stored, known);
     every_header(stored, &mut Rng::new(1));
     lengths(stored, &mut Rng::new(2));
     truncated_and_damaged(stored, &mut Rng::new(3));
 }
 
 /// Small streams with known answers, as far as they can be stored, with buffers that hold `EE`.
-fn examples(stored: &mut Streams) {
-    let cases = EXAMPLES.iter().map(|example| OwnedStream::parse(example.0).expect("the table's own text"));
+fn examples(stored: &mut Streams, known: &[Example]) {
+    let cases = known.iter().map(|example| OwnedStream::parse(example.0).expect("the table's own text"));
     for mut case in cases.filter(is_kept) {
         case.work.fill(BEFORE);
         case.image.fill(BEFORE);

@@ -5,6 +5,7 @@ use super::depth::depth;
 use super::RETURN;
 use comparer::encoding::given::pixels;
 use comparer::encoding::Sources;
+use comparer::layout::LAYOUTS;
 use comparer::picture::{Form, Planes};
 use comparer::planes::PlaneKind;
 use comparer::stream::header::joined;
@@ -26,11 +27,20 @@ type Room = *mut u8;
 
 kind!(OfPlane, no_plane: (Bytes, usize, Room, usize, usize, usize) -> i64);
 kind!(Decode, no_decode: (bool, bool, u32, u32, bool, Bytes, usize, Room, usize, Room, usize, usize, usize) -> i64);
+kind!(
+    DecodePixels,
+    no_decode_pixels: (bool, bool, u32, u32, bool, u32, Bytes, usize, Room, usize, Room, usize, usize, usize) -> i64
+);
 kind!(WorkSize, no_work_size: (bool, u32, bool, usize, usize) -> usize);
+kind!(PixelsWorkSize, no_pixels_work_size: (bool, bool, u32, bool, usize, usize) -> usize);
 kind!(ImageSize, no_image_size: (usize, usize) -> usize);
 kind!(StreamDecode, no_stream_decode: (Bytes, usize, Room, usize, Room, usize, usize, usize) -> i64);
+kind!(
+    StreamDecodePixels,
+    no_stream_decode_pixels: (u32, Bytes, usize, Room, usize, Room, usize, usize, usize) -> i64
+);
 kind!(StreamWorkSize, no_stream_work_size: (Bytes, usize, usize, usize) -> usize);
-kind!(OfPixels, no_pixels: (Bytes, usize, Room, usize, bool, usize, usize) -> i64);
+kind!(OfPixels, no_pixels: (u32, Bytes, usize, Room, usize, bool, usize, usize) -> i64);
 kind!(OfThree, no_three: (Bytes, usize, Bytes, usize, Bytes, usize, Room, usize, bool, usize, usize) -> i64);
 kind!(OfFour, no_four: (Bytes, usize, Bytes, usize, Bytes, usize, Bytes, usize, Room, usize, bool, usize, usize) -> i64);
 
@@ -143,13 +153,53 @@ fn of_decode() -> usize {
     })
 }
 
-fn of_stream_decode() -> usize {
+/// The layouts that there are, and one that there is not, by turns.
+fn layout(case: &Case) -> u32 {
+    ((case.source.len() + case.room) % (LAYOUTS.len() + 1)) as u32
+}
+
+fn of_decode_pixels() -> usize {
+    let bodies = |form| cases(form, 8, move |planes, width, height| planes.body(form, width, height));
+    let cases: Vec<Case> = forms().into_iter().flat_map(bodies).collect();
+    most(ours::rdp6_decode_pixels as DecodePixels, no_decode_pixels, &cases, |function, case, room| {
+        let Form { rle, alpha, definition, level, subsampled } = case.form;
+        let (layout, (body, body_len)) = (layout(case), case.part(0, 1));
+        let (image, work) = room.split_at_mut(case.room / 2);
+        let (image, image_len, work, work_len) = (image.as_mut_ptr(), image.len(), work.as_mut_ptr(), work.len());
+        let (width, height) = (case.width, case.height);
+        // SAFETY: all slices are valid during the call, and their lengths are right.
+        unsafe {
+            function(
+                rle, alpha, definition, level, subsampled, layout, body, body_len, work, work_len, image, image_len,
+                width, height,
+            )
+        };
+    })
+}
+
+/// Streams of all forms, with so much room for each pixel.
+fn stream_cases(room: usize) -> Vec<Case> {
     let stream = |form| {
-        cases(form, 6, move |planes, width, height| {
+        cases(form, room, move |planes, width, height| {
             joined(form, 0, &planes.body(form, width, height), 0).expect("a form that has a header byte")
         })
     };
-    let cases: Vec<Case> = forms().into_iter().flat_map(stream).collect();
+    forms().into_iter().flat_map(stream).collect()
+}
+
+fn of_stream_decode_pixels() -> usize {
+    let (function, cases) = (ours::rdp6_stream_decode_pixels as StreamDecodePixels, stream_cases(8));
+    most(function, no_stream_decode_pixels, &cases, |function, case, room| {
+        let (layout, (stream, len)) = (layout(case), case.part(0, 1));
+        let (image, work) = room.split_at_mut(case.room / 2);
+        let (image, image_len, work, work_len) = (image.as_mut_ptr(), image.len(), work.as_mut_ptr(), work.len());
+        // SAFETY: all slices are valid during the call, and their lengths are right.
+        unsafe { function(layout, stream, len, work, work_len, image, image_len, case.width, case.height) };
+    })
+}
+
+fn of_stream_decode() -> usize {
+    let cases = stream_cases(6);
     most(ours::rdp6_stream_decode as StreamDecode, no_stream_decode, &cases, |function, case, room| {
         let (stream, len) = case.part(0, 1);
         let (image, work) = room.split_at_mut(case.room / 2);
@@ -159,11 +209,11 @@ fn of_stream_decode() -> usize {
     })
 }
 
-fn of_stream_work_size() -> usize {
+fn of_stream_work_size(function: StreamWorkSize) -> usize {
     let call = |header: u8| {
         // SAFETY: one byte, which is valid during the call.
         let mut call = |size: StreamWorkSize| _ = unsafe { size(&raw const header, 1, 8192, 8191) };
-        taken(ours::rdp6_stream_work_size as StreamWorkSize, no_stream_work_size, &mut call)
+        taken(function, no_stream_work_size, &mut call)
     };
     (0..=255).map(call).max().expect("some header bytes")
 }
@@ -174,16 +224,16 @@ fn packed_forms(alpha: bool) -> [Form; 2] {
 }
 
 fn of_pixels(function: OfPixels, alpha: bool) -> usize {
-    let pixels_of = |planes: &Planes, _, _| match pixels(planes) {
+    let pixels_of = |planes: &Planes, _, _| match pixels(planes, LAYOUTS[0]) {
         Sources::Pixels { pixels, .. } => pixels,
         Sources::Channels { .. } => unreachable!("pixels"),
     };
     let cases: Vec<Case> = packed_forms(alpha).into_iter().flat_map(|form| cases(form, 8, pixels_of)).collect();
     most(function, no_pixels, &cases, |function, case, dst| {
-        let (source, len) = case.part(0, 1);
+        let (layout, (source, len)) = (layout(case), case.part(0, 1));
         let (at, room, rle) = (dst.as_mut_ptr(), dst.len(), case.form.rle);
         // SAFETY: both slices are valid during the call, and their lengths are right.
-        unsafe { function(source, len, at, room, rle, case.width, case.height) };
+        unsafe { function(layout, source, len, at, room, rle, case.width, case.height) };
     })
 }
 
@@ -220,14 +270,24 @@ fn of_work_size() -> usize {
     forms().into_iter().map(call).max().expect("some forms")
 }
 
-fn of_image_size() -> usize {
+fn of_pixels_work_size() -> usize {
+    let call = |form: Form| {
+        let Form { rle, alpha, definition, subsampled, .. } = form;
+        // SAFETY: no pointer is passed.
+        let mut call = |size: PixelsWorkSize| _ = unsafe { size(rle, alpha, definition, subsampled, 8192, 8191) };
+        taken(ours::rdp6_pixels_work_size as PixelsWorkSize, no_pixels_work_size, &mut call)
+    };
+    forms().into_iter().map(call).max().expect("some forms")
+}
+
+fn of_image_size(function: ImageSize) -> usize {
     // SAFETY: no pointer is passed.
     let mut call = |size: ImageSize| _ = unsafe { size(8192, 8191) };
-    taken(ours::rdp6_image_size as ImageSize, no_image_size, &mut call)
+    taken(function, no_image_size, &mut call)
 }
 
 /// Every C function with the most stack that it took.
-pub fn deepest() -> [(&'static str, usize); 15] {
+pub fn deepest() -> [(&'static str, usize); 20] {
     let packed =
         |plane: &[u8], width, height| original::pack(plane, width, height).expect("a complete plane with room");
     [
@@ -235,13 +295,18 @@ pub fn deepest() -> [(&'static str, usize); 15] {
         ("rdp6_compress_8bpp_plane", of_plane(ours::rdp6_compress_8bpp_plane, 2, |plane, _, _| plane.to_vec())),
         ("rdp6_decode", of_decode()),
         ("rdp6_work_size", of_work_size()),
-        ("rdp6_image_size", of_image_size()),
+        ("rdp6_image_size", of_image_size(ours::rdp6_image_size)),
+        ("rdp6_decode_pixels", of_decode_pixels()),
+        ("rdp6_pixels_work_size", of_pixels_work_size()),
+        ("rdp6_pixels_image_size", of_image_size(ours::rdp6_pixels_image_size)),
         ("rdp6_encode_bitmap", of_pixels(ours::rdp6_encode_bitmap, false)),
         ("rdp6_encode_bitmap_alpha", of_pixels(ours::rdp6_encode_bitmap_alpha, true)),
         ("rdp6_encode_channels", of_three(ours::rdp6_encode_channels)),
         ("rdp6_encode_channels_alpha", of_four(ours::rdp6_encode_channels_alpha)),
         ("rdp6_stream_decode", of_stream_decode()),
-        ("rdp6_stream_work_size", of_stream_work_size()),
+        ("rdp6_stream_work_size", of_stream_work_size(ours::rdp6_stream_work_size)),
+        ("rdp6_stream_decode_pixels", of_stream_decode_pixels()),
+        ("rdp6_stream_pixels_work_size", of_stream_work_size(ours::rdp6_stream_pixels_work_size)),
         ("rdp6_stream_encode_bitmap", of_pixels(ours::rdp6_stream_encode_bitmap, false)),
         ("rdp6_stream_encode_bitmap_alpha", of_pixels(ours::rdp6_stream_encode_bitmap_alpha, true)),
         ("rdp6_stream_encode_channels", of_three(ours::rdp6_stream_encode_channels)),

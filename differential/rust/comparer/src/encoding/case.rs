@@ -3,13 +3,11 @@
 use crate::bytes;
 use crate::case::MAX_SIDE;
 use crate::extent::Extent;
+use crate::layout::{Layout, STRIDE};
 use original::{Answer, Encoded};
 use std::fmt;
 
-/// The bytes of a pixel.
-pub const STRIDE: usize = 4;
-
-/// What a plane is of.
+/// What a plane is of, in the order of a layout's places.
 #[derive(Clone, Copy, Debug, PartialEq, Eq)]
 pub enum Channel {
     R,
@@ -18,25 +16,13 @@ pub enum Channel {
     A,
 }
 
-impl Channel {
-    /// The place in a pixel: B, G, R, A.
-    pub fn place(self) -> usize {
-        match self {
-            Channel::R => 2,
-            Channel::G => 1,
-            Channel::B => 0,
-            Channel::A => 3,
-        }
-    }
-}
-
 /// What a picture is packed from.
 #[derive(Clone, Copy, Debug, PartialEq, Eq)]
 pub enum Sources<Bytes> {
     /// Samples of R, G and B, and of A if that is packed too.
     Channels { colours: [Bytes; 3], alpha: Option<Bytes> },
-    /// Pixels, and whether their A is packed too.
-    Pixels { pixels: Bytes, alpha: bool },
+    /// Pixels of a layout, and whether their A is packed too.
+    Pixels { pixels: Bytes, layout: Layout, alpha: bool },
 }
 
 impl<Bytes: AsRef<[u8]>> Sources<Bytes> {
@@ -45,6 +31,19 @@ impl<Bytes: AsRef<[u8]>> Sources<Bytes> {
             Sources::Channels { alpha, .. } => alpha.is_some(),
             Sources::Pixels { alpha, .. } => *alpha,
         }
+    }
+
+    /// The layout of pixels.
+    pub fn layout(&self) -> Option<Layout> {
+        match self {
+            Sources::Channels { .. } => None,
+            Sources::Pixels { layout, .. } => Some(*layout),
+        }
+    }
+
+    /// Whether there is no such layout.
+    pub fn has_unknown_layout(&self) -> bool {
+        self.layout().is_some_and(|layout| layout.known().is_none())
     }
 
     /// How many planes are packed.
@@ -83,7 +82,9 @@ impl<Bytes: AsRef<[u8]>> Sources<Bytes> {
                 colours: [r.as_ref(), g.as_ref(), b.as_ref()],
                 alpha: alpha.as_ref().map(Bytes::as_ref),
             },
-            Sources::Pixels { pixels, alpha } => Sources::Pixels { pixels: pixels.as_ref(), alpha: *alpha },
+            Sources::Pixels { pixels, layout, alpha } => {
+                Sources::Pixels { pixels: pixels.as_ref(), layout: *layout, alpha: *alpha }
+            }
         }
     }
 }
@@ -96,11 +97,13 @@ impl<'a> Sources<&'a [u8]> {
                 colours: colours.map(|samples| change(samples, 1)),
                 alpha: alpha.map(|samples| change(samples, 1)),
             },
-            Sources::Pixels { pixels, alpha } => Sources::Pixels { pixels: change(pixels, STRIDE), alpha },
+            Sources::Pixels { pixels, layout, alpha } => {
+                Sources::Pixels { pixels: change(pixels, STRIDE), layout, alpha }
+            }
         }
     }
 
-    /// The samples of a channel; none of A if there is none.
+    /// The samples of a channel; none of A if there is none. A layout is known.
     pub fn samples(self, channel: Channel) -> impl Iterator<Item = u8> + 'a {
         let (slice, start, stride) = match self {
             Sources::Channels { colours: [r, g, b], alpha } => {
@@ -112,7 +115,10 @@ impl<'a> Sources<&'a [u8]> {
                 };
                 (slice, 0, 1)
             }
-            Sources::Pixels { pixels, .. } => (&pixels[..pixels.len() / STRIDE * STRIDE], channel.place(), STRIDE),
+            Sources::Pixels { pixels, layout, .. } => {
+                let places = layout.places().expect("a layout that there is");
+                (&pixels[..pixels.len() / STRIDE * STRIDE], places[channel as usize], STRIDE)
+            }
         };
         slice.get(start..).unwrap_or(&[]).iter().copied().step_by(stride)
     }
@@ -133,12 +139,14 @@ pub struct Encoding<Bytes> {
 pub type OwnedEncoding = Encoding<Vec<u8>>;
 
 impl<Bytes: AsRef<[u8]>> Encoding<Bytes> {
-    /// The refusal before anything is read: 1, 2, then 11 (FORMAT 8).
+    /// The refusal before anything is read: 1, 2, 3 if there is no such layout, then 11 (FORMAT 8).
     pub fn refused_at_entry(&self) -> Option<u8> {
         if self.width == 0 || self.height == 0 {
             Some(1)
         } else if self.width > MAX_SIDE || self.height > MAX_SIDE {
             Some(2)
+        } else if self.sources.has_unknown_layout() {
+            Some(3)
         } else if self.sources.counts().any(|count| count < self.width * self.height) {
             Some(11)
         } else {
@@ -186,15 +194,17 @@ impl Encoding<&[u8]> {
         }
     }
 
-    /// What IronRDP answers. `after` is its destination, which begins with a byte for the header.
-    pub fn by_ironrdp(&self, after: &mut [u8]) -> Encoded {
+    /// What IronRDP answers, if it has such a layout. `after` is its destination, which begins with a byte for the header.
+    pub fn by_ironrdp(&self, after: &mut [u8]) -> Option<Encoded> {
         let Encoding { width, height, rle, .. } = *self;
-        match self.sources {
+        Some(match self.sources {
             Sources::Channels { colours, alpha } => {
                 original::encode_channels(colours, alpha, after, rle, width, height)
             }
-            Sources::Pixels { pixels, alpha } => original::encode_bitmap(pixels, alpha, after, rle, width, height),
-        }
+            Sources::Pixels { pixels, layout, alpha } => {
+                original::encode_bitmap(layout.known()?, pixels, alpha, after, rle, width, height)
+            }
+        })
     }
 
     pub fn to_owned(&self) -> OwnedEncoding {
@@ -209,8 +219,8 @@ fn flag(word: &str) -> Option<bool> {
 }
 
 impl OwnedEncoding {
-    /// Reads `pc WIDTH HEIGHT RLE R G B A DST`, where A can be `none`, or `pb WIDTH HEIGHT RLE ALPHA PIXELS DST`; of a stream `sc` and
-    /// `sb`.
+    /// Reads `pc WIDTH HEIGHT RLE R G B A DST`, where A can be `none`, or `pb WIDTH HEIGHT LAYOUT RLE ALPHA PIXELS DST`; of a stream
+    /// `sc` and `sb`.
     pub fn parse(text: &str) -> Option<OwnedEncoding> {
         let words: Vec<&str> = text.split_whitespace().collect();
         let extent = if text.starts_with('s') { Extent::Stream } else { Extent::Body };
@@ -220,8 +230,9 @@ impl OwnedEncoding {
                 let alpha = if a == "none" { None } else { Some(bytes::parse(a)?) };
                 (width, height, rle, Sources::Channels { colours, alpha }, before)
             }
-            ["pb" | "sb", width, height, rle, alpha, pixels, before] => {
-                let sources = Sources::Pixels { pixels: bytes::parse(pixels)?, alpha: flag(alpha)? };
+            ["pb" | "sb", width, height, layout, rle, alpha, pixels, before] => {
+                let (layout, alpha) = (Layout::parse(layout)?, flag(alpha)?);
+                let sources = Sources::Pixels { pixels: bytes::parse(pixels)?, layout, alpha };
                 (width, height, rle, sources, before)
             }
             _ => return None,
@@ -242,8 +253,9 @@ impl fmt::Display for OwnedEncoding {
                 let a = alpha.as_ref().map_or("none".to_owned(), |samples| bytes::text(samples));
                 write!(f, "{extent}c {width} {height} {rle} {r} {g} {b} {a} {before}")
             }
-            Sources::Pixels { pixels, alpha } => {
-                write!(f, "{extent}b {width} {height} {rle} {} {} {before}", u8::from(*alpha), bytes::text(pixels))
+            Sources::Pixels { pixels, layout, alpha } => {
+                let (alpha, pixels) = (u8::from(*alpha), bytes::text(pixels));
+                write!(f, "{extent}b {width} {height} {layout} {rle} {alpha} {pixels} {before}")
             }
         }
     }
@@ -259,19 +271,21 @@ mod tests {
             "pc 1 1 0 01 02 03 none EE*4",
             "pc 2 1 1 0102 0304 0506 - -",
             "pc 2 1 1 - - - 01 -",
-            "pb 2 1 0 1 0102030405060708AABBCC EE*9",
+            "pb 2 1 bgra 0 1 0102030405060708AABBCC EE*9",
+            "pb 2 1 256 0 1 - -",
             "sc 1 1 0 01 02 03 none EE*5",
-            "sb 2 1 0 1 0102030405060708AABBCC EE*9",
+            "sb 2 1 abgr 0 1 0102030405060708AABBCC EE*9",
         ] {
             assert_eq!(OwnedEncoding::parse(text).unwrap().to_string(), text);
         }
         assert_eq!(OwnedEncoding::parse("pc 1 1 0 01 02 none 03 EE*4"), None);
-        assert_eq!(OwnedEncoding::parse("pb 1 1 0 2 01020304 EE*4"), None);
+        assert_eq!(OwnedEncoding::parse("pb 1 1 bgra 0 2 01020304 EE*4"), None);
+        assert_eq!(OwnedEncoding::parse("pb 1 1 3 0 0 01020304 EE*4"), None);
     }
 
     #[test]
     fn samples_of_complete_pixels() {
-        let case = OwnedEncoding::parse("pb 2 1 0 1 0102030405060708AABBCC -").unwrap();
+        let case = OwnedEncoding::parse("pb 2 1 bgra 0 1 0102030405060708AABBCC -").unwrap();
         let of = |channel| case.view().sources.samples(channel).collect::<Vec<u8>>();
         assert_eq!([Channel::R, Channel::G, Channel::B, Channel::A].map(of), [[3, 7], [2, 6], [1, 5], [4, 8]]);
         assert_eq!(case.sources.counts().collect::<Vec<_>>(), [2]);

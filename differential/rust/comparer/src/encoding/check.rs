@@ -6,8 +6,9 @@ use crate::encoding::{round_trip, Encoding, OwnedEncoding, Sources};
 use crate::extent::Extent;
 use crate::guarded::{Buffer, Side, SIDES};
 use crate::input::{Input, View};
+use crate::layout::{Format, Layout};
 use crate::stream::Stream;
-use crate::tally::{Kind, Reference};
+use crate::tally::{Group, Kind, Reference};
 use original::{Answer, Definition, Encoded, Header};
 
 /// `rdp6_encode_channels` and `rdp6_stream_encode_channels` as C declares them: R, G, B, destination, RLE, width, height; bytes written,
@@ -43,8 +44,8 @@ pub type EncodeChannelsAlpha = unsafe extern "C" fn(
     usize,
 ) -> i64;
 
-/// The same from pixels.
-pub type EncodeBitmap = unsafe extern "C" fn(*const u8, usize, *mut u8, usize, bool, usize, usize) -> i64;
+/// The same from pixels, whose layout comes first.
+pub type EncodeBitmap = unsafe extern "C" fn(u32, *const u8, usize, *mut u8, usize, bool, usize, usize) -> i64;
 
 /// The functions of a library that pack pictures, into bodies or into streams.
 #[derive(Clone, Copy)]
@@ -103,7 +104,12 @@ impl Comparer {
     /// The same with the buffers at these sides of their pages only, where both would take too long.
     pub fn compare_encoding_at(&mut self, kind: Kind, case: Encoding<&[u8]>, sides: &[Side]) -> Outcome {
         let wanted = self.ask_encoding(case)?;
-        self.tally.count_in(case.extent, kind, Reference::ironrdp_if(case.is_inside()), &wanted);
+        self.tally.count_in(
+            Group::of(case.extent, Format::Rgb24),
+            kind,
+            Reference::ironrdp_if(case.is_inside()),
+            &wanted,
+        );
         self.compare_encoder(case, wanted, sides)
     }
 
@@ -123,7 +129,7 @@ impl Comparer {
             return Ok(Answer::Refused(number));
         }
         let asked = if case.is_inside() { case } else { case.with_first_samples() };
-        let encoded = asked.by_ironrdp(wanted);
+        let encoded = asked.by_ironrdp(wanted).expect("a layout that IronRDP has");
         let no_room = wanted.is_empty() && encoded == Encoded { answer: Answer::Refused(12), header: None };
         if encoded.header == Some(record(case.rle)) || no_room {
             let answer = case.answer(encoded);
@@ -154,7 +160,7 @@ impl Comparer {
 
     /// What the library wrote must be unpacked to the samples that were packed: by IronRDP, and a stream by the library too.
     fn compare_round_trip(&mut self, case: Encoding<&[u8]>, count: usize) -> Outcome {
-        self.tally.count_unpacked_again(case.extent);
+        self.tally.count_unpacked_again(Group::of(case.extent, Format::Rgb24));
         // The library's decoder is called with the memory of this comparer, so this is taken out of it.
         let got = std::mem::take(&mut self.packed.got);
         let by_ironrdp = round_trip::wrong(case, &got[..count]).map(|wrong| (wrong, "rdp6, unpacked by IronRDP"));
@@ -176,7 +182,8 @@ impl Comparer {
         }
         let image = vec![0; 3 * case.width * case.height];
         let work = if case.rle { &image[..] } else { &[] };
-        let stream = Stream { width: case.width, height: case.height, stream: packed, work, image: &image };
+        let (width, height, format) = (case.width, case.height, Format::Rgb24);
+        let stream = Stream { width, height, format, stream: packed, work, image: &image };
         let (answer, harm) = self.call_stream_decoder(stream, Side::End);
         let answer = harm.unwrap_or_else(|| answer_text(answer));
         round_trip::wrong_image(case, answer, self.afters.got_image().to_vec())
@@ -198,7 +205,7 @@ impl Comparer {
         match case.sources {
             Sources::Channels { colours, alpha: None } => self.call_channels(case, colours, side),
             Sources::Channels { colours, alpha: Some(alpha) } => self.call_channels_alpha(case, colours, alpha, side),
-            Sources::Pixels { pixels, alpha } => self.call_bitmap(case, pixels, alpha, side),
+            Sources::Pixels { pixels, layout, alpha } => self.call_bitmap(case, (pixels, layout), alpha, side),
         }
     }
 
@@ -241,7 +248,13 @@ impl Comparer {
         })
     }
 
-    fn call_bitmap(&mut self, case: Encoding<&[u8]>, pixels: &[u8], alpha: bool, side: Side) -> (i64, Option<String>) {
+    fn call_bitmap(
+        &mut self,
+        case: Encoding<&[u8]>,
+        (pixels, layout): (&[u8], Layout),
+        alpha: bool,
+        side: Side,
+    ) -> (i64, Option<String>) {
         let Encoding { width, height, rle, before, .. } = case;
         let encoders = self.library.encoders(case.extent);
         let encode = if alpha { encoders.bitmap_alpha } else { encoders.bitmap };
@@ -249,7 +262,7 @@ impl Comparer {
         let len = pixels.len();
         // SAFETY: both buffers are valid during the call. That it stays inside them is tested.
         self.memory.call(View::Encoding(case), side, buffers, |[pixels, dst]| unsafe {
-            encode(pixels, len, dst, before.len(), rle, width, height)
+            encode(layout.0, pixels, len, dst, before.len(), rle, width, height)
         })
     }
 }

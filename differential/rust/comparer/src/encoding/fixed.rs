@@ -3,9 +3,10 @@
 use crate::case::MAX_SIDE;
 use crate::check::{Comparer, Outcome};
 use crate::encoding::given::{self, both, given, in_rooms, ALPHAS, FORMS};
-use crate::encoding::{blocks, examples, refused, Encoding, Sources};
+use crate::encoding::{blocks, examples, layouts, refused, Encoding, Sources};
 use crate::extent::Extent;
 use crate::guarded::SIDES as BOTH_SIDES;
+use crate::layout::BGRA;
 use crate::packing::boundary;
 use crate::packing::fixed::TWO_VALUES;
 use crate::picture::Planes;
@@ -23,7 +24,8 @@ pub fn run(comparer: &mut Comparer) -> Outcome {
 /// All but the largest picture.
 pub fn run_quick(comparer: &mut Comparer) -> Outcome {
     run_of(comparer, Extent::Body)?;
-    blocks::run(comparer)
+    blocks::run(comparer)?;
+    layouts::run_wide(comparer)
 }
 
 /// Streams, without what is about the reading of long rows: that a stream has the same body is seen with other pictures.
@@ -38,6 +40,7 @@ fn run_of(comparer: &mut Comparer, extent: Extent) -> Outcome {
     small_pictures(comparer, earlier, extent)?;
     telling_pictures(comparer, earlier, extent)?;
     kinds(comparer, earlier, extent)?;
+    layouts::run(comparer, earlier, extent)?;
     long_sides(comparer, earlier, extent)
 }
 
@@ -58,7 +61,7 @@ fn in_all_rooms(
 }
 
 /// The planes that these samples are, one behind the other: R, G and B, then A.
-fn planes_of(samples: &[u8], count: usize) -> Planes {
+pub fn planes_of(samples: &[u8], count: usize) -> Planes {
     let mut planes = samples.chunks(count).map(<[u8]>::to_vec);
     let mut next = || planes.next().expect("three planes at least");
     let colours = [next(), next(), next()];
@@ -141,7 +144,7 @@ fn largest(comparer: &mut Comparer) -> Outcome {
         bytes
     };
     let (pixels, before) = (long(4 * width * height), long(3 * width * height + 1));
-    let sources = Sources::Pixels { pixels: &pixels[..], alpha: false };
+    let sources = Sources::Pixels { pixels: &pixels[..], layout: BGRA, alpha: false };
     for (room, side) in [before.len(), before.len() - 1].into_iter().zip(BOTH_SIDES) {
         let case = Encoding { before: &before[..room], ..given(Extent::Body, false, (width, height), sources) };
         comparer.compare_encoding_at(Kind::EncodingLargest, case, &[side])?;

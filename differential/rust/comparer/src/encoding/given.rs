@@ -1,9 +1,9 @@
 //! Pictures to pack: their planes as channels and as pixels, and the destinations that they are tried with.
 
 use crate::check::{Comparer, Outcome};
-use crate::encoding::case::STRIDE;
 use crate::encoding::{Encoding, Sources};
 use crate::extent::Extent;
+use crate::layout::{Layout, BGRA, STRIDE};
 use crate::picture::{Form, Planes};
 use crate::planes::{longest_packing, segment_starts, Earlier};
 use crate::tally::Kind;
@@ -18,20 +18,20 @@ pub fn channels(planes: &Planes) -> Sources<Vec<u8>> {
     Sources::Channels { colours: planes.colours.clone(), alpha: planes.alpha.clone() }
 }
 
-/// The planes as pixels. Where there is no alpha, A changes from pixel to pixel and must not matter.
-pub fn pixels(planes: &Planes) -> Sources<Vec<u8>> {
+/// The planes as pixels of a layout. Where there is no alpha, A changes from pixel to pixel and must not matter.
+pub fn pixels(planes: &Planes, layout: Layout) -> Sources<Vec<u8>> {
     let [r, g, b] = &planes.colours;
     let mut pixels = Vec::with_capacity(STRIDE * r.len());
     for (at, ((&r, &g), &b)) in r.iter().zip(g).zip(b).enumerate() {
         let a = planes.alpha.as_ref().map_or((at * 89 + 7) as u8, |alpha| alpha[at]);
-        pixels.extend([b, g, r, a]);
+        pixels.extend(layout.pixel([r, g, b, a]));
     }
-    Sources::Pixels { pixels, alpha: planes.alpha.is_some() }
+    Sources::Pixels { pixels, layout, alpha: planes.alpha.is_some() }
 }
 
-/// Both.
+/// Both. The layout is BGRA; `layouts` has the others.
 pub fn both(planes: &Planes) -> [Sources<Vec<u8>>; 2] {
-    [channels(planes), pixels(planes)]
+    [channels(planes), pixels(planes, BGRA)]
 }
 
 /// The form that the planes are chosen by: three or four of the picture's sides.
@@ -66,7 +66,7 @@ impl Encoding<&[u8]> {
     /// The body that IronRDP makes of the first width times height samples if there is room. Nothing is refused at entry.
     pub fn packing(self) -> Vec<u8> {
         let mut after = vec![0; 2 + self.sources.planes() * longest_packing(self.width, self.height)];
-        let encoded = self.with_first_samples().by_ironrdp(&mut after);
+        let encoded = self.with_first_samples().by_ironrdp(&mut after).expect("a layout that IronRDP has");
         let count = encoded.body_answer().number().expect("complete planes with room");
         after.drain(1..).take(usize::try_from(count).expect("a count")).collect()
     }

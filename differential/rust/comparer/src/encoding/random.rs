@@ -1,10 +1,10 @@
 //! The part that goes on until the time is over.
 
 use crate::check::{Comparer, Outcome};
-use crate::encoding::case::STRIDE;
 use crate::encoding::given::{self, channels, given, pixels};
 use crate::encoding::{Encoding, Sources};
 use crate::extent::Extent;
+use crate::layout::{Layout, BGRA, LAYOUTS, STRIDE, UNKNOWN};
 use crate::picture::Planes;
 use crate::planes::{self, segment_starts, Earlier};
 use crate::rng::Rng;
@@ -46,6 +46,25 @@ impl Random {
         }
     }
 
+    /// A layout, BGRA half of the time.
+    fn layout(&mut self) -> Layout {
+        if self.rng.once_in(2) {
+            BGRA
+        } else {
+            *self.rng.pick(&LAYOUTS)
+        }
+    }
+
+    /// A layout that there is not, or any.
+    fn other_layout(&mut self) -> Layout {
+        match self.rng.below(4) {
+            0 => self.layout(),
+            1 => Layout(self.rng.word() as u32),
+            2 => Layout(4 + self.rng.below(300) as u32),
+            _ => *self.rng.pick(&UNKNOWN),
+        }
+    }
+
     /// The planes of a picture by one of the entries.
     fn sources(&mut self, width: usize, height: usize) -> Sources<Vec<u8>> {
         let form = given::form(self.rng.once_in(2));
@@ -53,7 +72,7 @@ impl Random {
         if self.rng.once_in(2) {
             channels(&planes)
         } else {
-            pixels(&planes)
+            pixels(&planes, self.layout())
         }
     }
 
@@ -111,16 +130,19 @@ impl Random {
         [slice, &self.rng.bytes(more)].concat()
     }
 
-    /// Sides of which at least one is refused.
+    /// Sides of which at least one is refused, or small ones; pixels of a layout that there is not, or of any.
     fn outside(&mut self, comparer: &mut Comparer) -> Outcome {
         for _ in 0..8 {
-            let sides = planes::sides_outside(&mut self.rng);
+            let sides = match self.rng.below(3) {
+                0 => (self.rng.within(1, 4), self.rng.within(1, 4)),
+                _ => planes::sides_outside(&mut self.rng),
+            };
             let (alpha, len) = (self.rng.once_in(2), self.rng.within(0, 150));
             let bytes = [0; 4].map(|_| self.rng.bytes(len));
             let [r, g, b, a] = bytes.each_ref().map(|bytes| &bytes[..]);
             let sources = match self.rng.below(2) {
                 0 => Sources::Channels { colours: [r, g, b], alpha: alpha.then_some(a) },
-                _ => Sources::Pixels { pixels: &r[..len / STRIDE * STRIDE], alpha },
+                _ => Sources::Pixels { pixels: &r[..len / STRIDE * STRIDE], layout: self.other_layout(), alpha },
             };
             let room = self.rng.within(0, 600);
             let case = given(self.extent, self.rng.once_in(2), sides, sources);

@@ -3,10 +3,10 @@
 
 use crate::case::{BOUNDARY_SIDES, MAX_SIDE};
 use crate::check::{Comparer, Outcome};
-use crate::encoding::case::STRIDE;
 use crate::encoding::given::{self, both, given, ALPHAS, FORMS};
 use crate::encoding::{Encoding, Sources};
 use crate::extent::Extent;
+use crate::layout::{BGRA, STRIDE};
 use crate::picture::Planes;
 use crate::planes::Earlier;
 use crate::rng::Rng;
@@ -25,8 +25,8 @@ fn of_every_entry(noise: &[u8], len: usize) -> [Sources<&[u8]>; 4] {
     [
         Sources::Channels { colours: [at(0), at(1), at(2)], alpha: None },
         Sources::Channels { colours: [at(0), at(1), at(2)], alpha: Some(at(3)) },
-        Sources::Pixels { pixels: at(0), alpha: false },
-        Sources::Pixels { pixels: at(0), alpha: true },
+        Sources::Pixels { pixels: at(0), layout: BGRA, alpha: false },
+        Sources::Pixels { pixels: at(0), layout: BGRA, alpha: true },
     ]
 }
 
@@ -144,9 +144,9 @@ fn pixel_slices(comparer: &mut Comparer, earlier: &mut Earlier, extent: Extent) 
         let complete = STRIDE * width * height;
         let noise = rng.bytes(complete + 2 * STRIDE);
         for len in complete.saturating_sub(2 * STRIDE)..complete + 2 * STRIDE {
-            let sources = Sources::Pixels { pixels: &noise[..len], alpha };
+            let sources = Sources::Pixels { pixels: &noise[..len], layout: BGRA, alpha };
             for rle in FORMS {
-                let exact = Sources::Pixels { pixels: &noise[..complete], alpha };
+                let exact = Sources::Pixels { pixels: &noise[..complete], layout: BGRA, alpha };
                 let needed = given(extent, rle, (width, height), exact).packing().len();
                 for room in [0, needed - 1, needed, needed + 9] {
                     let case = given(extent, rle, (width, height), sources);

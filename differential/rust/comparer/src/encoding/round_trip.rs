@@ -70,7 +70,7 @@ mod tests {
 
     #[test]
     fn right_bodies_and_wrong_ones() {
-        let [three, four] = ["pb 1 1 1 0 01020304 -", "pb 1 1 1 1 01020304 -"];
+        let [three, four] = ["pb 1 1 bgra 1 0 01020304 -", "pb 1 1 bgra 1 1 01020304 -"];
         assert_eq!(named(three, "100310021001"), None);
         assert_eq!(named(three, "100110021003"), Some("image"));
         assert_eq!(named(three, "1003100210"), Some("image"));
@@ -81,7 +81,7 @@ mod tests {
         assert_eq!(named(three, "04030201"), Some("image"));
         assert_eq!(named(four, "0403020100"), None);
         assert_eq!(named(four, "0303020100"), Some("alpha plane"));
-        let [three, four] = ["sb 1 1 0 0 01020304 -", "sb 1 1 1 1 01020304 -"];
+        let [three, four] = ["sb 1 1 bgra 0 0 01020304 -", "sb 1 1 bgra 1 1 01020304 -"];
         assert_eq!(named(three, "2003020100"), None);
         assert_eq!(named(three, "2103020100"), Some("image"));
         assert_eq!(named(three, "20030201"), Some("image"));

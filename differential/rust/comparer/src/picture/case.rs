@@ -2,6 +2,8 @@
 
 use crate::bytes;
 use crate::case::MAX_SIDE;
+use crate::layout::{Format, Layout};
+use crate::picture::pixels;
 use original::{Answer, Definition, Header};
 use std::fmt;
 
@@ -57,10 +59,11 @@ impl Form {
         width * height + 2 * chroma_width * chroma_height
     }
 
-    /// The work area that is needed. The sides are inside the domain.
-    pub fn work_len(&self, width: usize, height: usize) -> usize {
+    /// The work area that is needed: that of four-byte pixels also has the alpha plane. The sides are inside the domain.
+    pub fn work_len(&self, format: Format, width: usize, height: usize) -> usize {
+        let alpha = if self.alpha && format.keeps_alpha() { width * height } else { 0 };
         if self.rle {
-            self.colour_samples(width, height)
+            self.colour_samples(width, height) + alpha
         } else {
             0
         }
@@ -125,12 +128,13 @@ impl fmt::Display for Form {
     }
 }
 
-/// The sides, the form, the body, and what the work area and the image hold before the call.
+/// The sides, the form, what is asked for, the body, and what the work area and the image hold before the call.
 #[derive(Clone, Copy)]
 pub struct Picture<'a> {
     pub width: usize,
     pub height: usize,
     pub form: Form,
+    pub format: Format,
     pub body: &'a [u8],
     pub work: &'a [u8],
     pub image: &'a [u8],
@@ -142,6 +146,7 @@ pub struct OwnedPicture {
     pub width: usize,
     pub height: usize,
     pub form: Form,
+    pub format: Format,
     pub body: Vec<u8>,
     pub work: Vec<u8>,
     pub image: Vec<u8>,
@@ -151,18 +156,18 @@ impl Picture<'_> {
     /// The refusal outside the domain, in the order of FORMAT 8: 1, 2, 3, and if the work area or the image is short, 4 of the
     /// body, then 5 or 6. `None` is inside the domain: there IronRDP is the reference, for 4 too.
     pub fn refused_outside(&self) -> Option<u8> {
-        let (width, height, form) = (self.width, self.height, self.form);
+        let Picture { width, height, form, format, .. } = *self;
         if width == 0 || height == 0 {
             return Some(1);
         }
         if width > MAX_SIDE || height > MAX_SIDE {
             return Some(2);
         }
-        if form.is_refused() {
+        if form.is_refused() || format.is_unknown() {
             return Some(3);
         }
-        let short_work = self.work.len() < form.work_len(width, height);
-        let short_image = self.image.len() < 3 * width * height;
+        let short_work = self.work.len() < form.work_len(format, width, height);
+        let short_image = self.image.len() < format.bytes() * width * height;
         match (short_work, short_image) {
             (false, false) => None,
             _ if self.body.len() < form.min_body(width, height) => Some(4),
@@ -172,10 +177,16 @@ impl Picture<'_> {
     }
 
     /// What IronRDP answers, if its header can express this form. `work` is its work area, which it may make longer or shorter;
-    /// the pixels are appended to `image`.
+    /// the pixels are appended to `image`. Four-byte pixels are asked for inside the domain alone.
     pub fn by_ironrdp(&self, work: &mut Vec<u8>, image: &mut Vec<u8>) -> Option<Answer> {
         let header = self.form.header()?;
-        Some(original::decode(header, self.body, work, image, self.width, self.height))
+        let decode = |work: &mut Vec<u8>, image: &mut Vec<u8>| {
+            original::decode(header, self.body, work, image, self.width, self.height)
+        };
+        Some(match self.format {
+            Format::Rgb24 => decode(work, image),
+            Format::Pixels(layout) => pixels::by_ironrdp(*self, layout, work, image, decode),
+        })
     }
 
     pub fn to_owned(&self) -> OwnedPicture {
@@ -183,6 +194,7 @@ impl Picture<'_> {
             width: self.width,
             height: self.height,
             form: self.form,
+            format: self.format,
             body: self.body.to_vec(),
             work: self.work.to_vec(),
             image: self.image.to_vec(),
@@ -196,22 +208,30 @@ impl OwnedPicture {
             width: self.width,
             height: self.height,
             form: self.form,
+            format: self.format,
             body: &self.body,
             work: &self.work,
             image: &self.image,
         }
     }
 
-    /// Reads `iu WIDTH HEIGHT RLE ALPHA DEF BODY WORK IMAGE`.
+    /// Reads `iu WIDTH HEIGHT RLE ALPHA DEF BODY WORK IMAGE`, or `xu WIDTH HEIGHT RLE ALPHA DEF LAYOUT BODY WORK IMAGE` for four-byte
+    /// pixels.
     pub fn parse(text: &str) -> Option<OwnedPicture> {
         let words: Vec<&str> = text.split_whitespace().collect();
-        let ["iu", width, height, rle, alpha, definition, body, work, image] = words[..] else {
+        let [word, width, height, rle, alpha, definition, ref rest @ ..] = words[..] else {
             return None;
+        };
+        let (format, [body, work, image]) = match (word, rest) {
+            ("iu", &[body, work, image]) => (Format::Rgb24, [body, work, image]),
+            ("xu", &[layout, body, work, image]) => (Format::Pixels(Layout::parse(layout)?), [body, work, image]),
+            _ => return None,
         };
         Some(OwnedPicture {
             width: width.parse().ok()?,
             height: height.parse().ok()?,
             form: Form::parse(rle, alpha, definition)?,
+            format,
             body: bytes::parse(body)?,
             work: bytes::parse(work)?,
             image: bytes::parse(image)?,
@@ -222,7 +242,11 @@ impl OwnedPicture {
 impl fmt::Display for OwnedPicture {
     fn fmt(&self, f: &mut fmt::Formatter<'_>) -> fmt::Result {
         let [body, work, image] = [&self.body, &self.work, &self.image].map(|some| bytes::text(some));
-        write!(f, "iu {} {} {} {body} {work} {image}", self.width, self.height, self.form)
+        let (width, height, form) = (self.width, self.height, self.form);
+        match self.format {
+            Format::Rgb24 => write!(f, "iu {width} {height} {form} {body} {work} {image}"),
+            Format::Pixels(layout) => write!(f, "xu {width} {height} {form} {layout} {body} {work} {image}"),
+        }
     }
 }
 
@@ -239,6 +263,9 @@ mod tests {
             "iu 2 3 1 0 255:7:0 - - -",
             "iu 2 3 1 0 4294967295:0 - - -",
             "iu 2 3 1 0 4294967295:4294967295:0 - - -",
+            "xu 1 1 1 0 argb abgr 100110021003 EEEEEE EE*4",
+            "xu 2 3 0 1 argb:3:1 bgra - - EE*24",
+            "xu 2 3 1 1 7:1 4294967295 00*4 EE*16 EE*24",
         ] {
             assert_eq!(OwnedPicture::parse(text).unwrap().to_string(), text);
         }
@@ -247,5 +274,8 @@ mod tests {
         assert_eq!(OwnedPicture::parse("iu 1 1 1 0 4294967296:0 - - -"), None);
         assert_eq!(OwnedPicture::parse("iu 1 1 1 0 4294967296:1:0 - - -"), None);
         assert_eq!(OwnedPicture::parse("iu 1 1 1 0 -1:0 - - -"), None);
+        assert_eq!(OwnedPicture::parse("iu 1 1 1 0 argb bgra - - -"), None);
+        assert_eq!(OwnedPicture::parse("xu 1 1 1 0 argb - - -"), None);
+        assert_eq!(OwnedPicture::parse("xu 1 1 1 0 argb 0 - - -"), None);
     }
 }

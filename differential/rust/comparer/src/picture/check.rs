@@ -1,10 +1,12 @@
 //! Compares the unpacking of one picture.
 
 use crate::check::{answer_text, After, Comparer, Outcome};
+use crate::extent::Extent;
 use crate::guarded::{Buffer, Side, SIDES};
 use crate::input::{Input, View};
+use crate::layout::Format;
 use crate::picture::{OwnedPicture, Picture, Sizes};
-use crate::tally::{Kind, Reference};
+use crate::tally::{Group, Kind, Reference};
 use crate::Difference;
 use original::Answer;
 
@@ -26,8 +28,29 @@ pub type Decode = unsafe extern "C" fn(
     usize,
 ) -> i64;
 
+/// The same to four-byte pixels, whose layout comes behind the subsampling.
+pub type DecodePixels = unsafe extern "C" fn(
+    bool,
+    bool,
+    u32,
+    u32,
+    bool,
+    u32,
+    *const u8,
+    usize,
+    *mut u8,
+    usize,
+    *mut u8,
+    usize,
+    usize,
+    usize,
+) -> i64;
+
 /// The length of the work area: RLE, definition, subsampling, width, height.
 pub type WorkSize = unsafe extern "C" fn(bool, u32, bool, usize, usize) -> usize;
+
+/// The same of four-byte pixels: RLE, alpha, definition, subsampling, width, height.
+pub type PixelsWorkSize = unsafe extern "C" fn(bool, bool, u32, bool, usize, usize) -> usize;
 
 /// The length of the image: width, height.
 pub type ImageSize = unsafe extern "C" fn(usize, usize) -> usize;
@@ -38,6 +61,28 @@ pub struct Pictures {
     pub decode: Decode,
     pub work_size: WorkSize,
     pub image_size: ImageSize,
+    pub decode_pixels: DecodePixels,
+    pub pixels_work_size: PixelsWorkSize,
+    pub pixels_image_size: ImageSize,
+}
+
+impl Pictures {
+    /// What the two functions answer that a case is for.
+    pub fn sizes(&self, case: &Sizes) -> (usize, usize) {
+        let Sizes { width, height, rle, alpha, definition, subsampled } = *case;
+        // SAFETY: no pointer is passed.
+        unsafe {
+            match alpha {
+                None => {
+                    ((self.work_size)(rle, definition, subsampled, width, height), (self.image_size)(width, height))
+                }
+                Some(alpha) => (
+                    (self.pixels_work_size)(rle, alpha, definition, subsampled, width, height),
+                    (self.pixels_image_size)(width, height),
+                ),
+            }
+        }
+    }
 }
 
 /// The two buffers that a decoder writes.
@@ -123,7 +168,7 @@ impl Comparer {
     pub fn compare_picture_at(&mut self, kind: Kind, case: Picture<'_>, sides: &[Side]) -> Outcome {
         let reference = Reference::ironrdp_if(case.refused_outside().is_none());
         let wanted = self.ask_picture(case);
-        self.tally.count(kind, reference, &wanted);
+        self.tally.count_in(Group::of(Extent::Body, case.format), kind, reference, &wanted);
         self.compare_picture_decoder(case, wanted, sides)
     }
 
@@ -170,27 +215,45 @@ impl Comparer {
     }
 
     fn call_decoder(&mut self, case: Picture<'_>, side: Side) -> (i64, Option<String>) {
-        let Picture { width, height, form, body, work, image } = case;
-        let decode = self.library.pictures.decode;
+        let Picture { width, height, form, format, body, work, image } = case;
+        let Pictures { decode, decode_pixels, .. } = self.library.pictures;
         let [body_len, work_len, image_len] = [body.len(), work.len(), image.len()];
         let buffers = (Buffer::read("body", body), work, image);
         // SAFETY: all three buffers are valid during the call. That it stays inside them is tested.
         self.call_on_afters(View::Picture(case), side, buffers, |[body, work, image]| unsafe {
-            decode(
-                form.rle,
-                form.alpha,
-                form.definition,
-                form.level,
-                form.subsampled,
-                body,
-                body_len,
-                work,
-                work_len,
-                image,
-                image_len,
-                width,
-                height,
-            )
+            match format {
+                Format::Rgb24 => decode(
+                    form.rle,
+                    form.alpha,
+                    form.definition,
+                    form.level,
+                    form.subsampled,
+                    body,
+                    body_len,
+                    work,
+                    work_len,
+                    image,
+                    image_len,
+                    width,
+                    height,
+                ),
+                Format::Pixels(layout) => decode_pixels(
+                    form.rle,
+                    form.alpha,
+                    form.definition,
+                    form.level,
+                    form.subsampled,
+                    layout.0,
+                    body,
+                    body_len,
+                    work,
+                    work_len,
+                    image,
+                    image_len,
+                    width,
+                    height,
+                ),
+            }
         })
     }
 
@@ -210,16 +273,13 @@ impl Comparer {
 
     /// Compares both sizes, and counts the case.
     pub fn compare_sizes(&mut self, kind: Kind, case: Sizes) -> Outcome {
-        self.tally.count(kind, Reference::Format, &Answer::Done(case.work()));
+        let group = if case.alpha.is_none() { Group::Bodies } else { Group::Pixels };
+        self.tally.count_in(group, kind, Reference::Format, &Answer::Done(case.work()));
         self.check_sizes(&case)
     }
 
     pub(crate) fn check_sizes(&mut self, case: &Sizes) -> Outcome {
-        let Pictures { work_size, image_size, .. } = self.library.pictures;
-        let Sizes { width, height, rle, definition, subsampled } = *case;
-        // SAFETY: no pointer is passed.
-        let (work, image) =
-            unsafe { (work_size(rle, definition, subsampled, width, height), image_size(width, height)) };
+        let (work, image) = self.library.pictures.sizes(case);
         let of_work = ("the size of the work area", case.work(), work);
         let of_image = ("the size of the image", case.image(), image);
         for (name, wanted, got) in [of_work, of_image] {

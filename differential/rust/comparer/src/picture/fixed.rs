@@ -5,7 +5,9 @@ use crate::case::MAX_SIDE;
 use crate::check::{Comparer, Outcome};
 use crate::extent::Extent;
 use crate::guarded::SIDES as BOTH_SIDES;
-use crate::picture::planes::{Befores, Sent};
+use crate::layout::{Format, LAYOUTS};
+use crate::packing::places::{ARRAY_WIDTHS, LONGEST};
+use crate::picture::planes::{Befores, Formats, Sent};
 use crate::picture::refused::{few_forms, FLAGS};
 use crate::picture::{colours, examples, refused, sizes, Form, Picture, Planes};
 use crate::planes::PlaneKind;
@@ -22,9 +24,20 @@ pub fn run(comparer: &mut Comparer) -> Outcome {
     largest(comparer)
 }
 
+/// The same pictures unpacked to four-byte pixels, and what is about these alone.
+pub fn run_pixels(comparer: &mut Comparer) -> Outcome {
+    let befores = &mut Befores::new(Extent::Body, Formats::pixels());
+    examples::run_pixels(comparer)?;
+    sizes::run_pixels(comparer)?;
+    run_of(comparer, befores)?;
+    refused::run_layouts(comparer, befores)?;
+    array_widths(comparer, befores)?;
+    colours::run_pixels(comparer)
+}
+
 /// All but the largest pictures.
 pub fn run_quick(comparer: &mut Comparer) -> Outcome {
-    let befores = &mut Befores::new(Extent::Body);
+    let befores = &mut Befores::new(Extent::Body, Formats::Rgb24);
     examples::run(comparer)?;
     sizes::run(comparer)?;
     run_of(comparer, befores)
@@ -69,6 +82,31 @@ fn all_widths(comparer: &mut Comparer, befores: &mut Befores) -> Outcome {
             let body = Planes::random(rng, form, width, height).body(form, width, height);
             let sent = Sent { width, height, form, body: &body };
             befores.compare_longer(comparer, Kind::PictureWidths, sent, (rng.below(2), rng.below(2)))?;
+        }
+    }
+    Ok(())
+}
+
+/// Rows of about 256 pixels, which have arrays of their own in the code, and the longest ones, in every form and every layout; odd heights
+/// have a last row without a second one. Of each also a body that is refused in its last plane, and an image or a work area that is one byte
+/// short.
+pub fn array_widths(comparer: &mut Comparer, befores: &mut Befores) -> Outcome {
+    let rng = &mut Rng::new(44);
+    for (width, form) in
+        ARRAY_WIDTHS.into_iter().chain(LONGEST).flat_map(|width| few_forms().map(move |form| (width, form)))
+    {
+        for (height, layout) in (1..=3).flat_map(|height| LAYOUTS.map(|layout| (height, layout))) {
+            if width > 1000 && (height + width) % 3 != 0 {
+                continue;
+            }
+            let body = Planes::random(rng, form, width, height).body(form, width, height);
+            let sent = Sent { width, height, form, body: &body };
+            let (work, image) = befores.needs(sent);
+            let (format, kind) = (Format::Pixels(layout), Kind::PictureWidths);
+            befores.compare_to(comparer, kind, format, sent, (work, image))?;
+            befores.compare_to(comparer, kind, format, sent.with_body(&body[..body.len() - 1]), (work + 1, image))?;
+            befores.compare_to(comparer, kind, format, sent, (work, image - 1))?;
+            befores.compare_to(comparer, kind, format, sent, (work.saturating_sub(1), image))?;
         }
     }
     Ok(())
@@ -126,7 +164,7 @@ fn long_sides(comparer: &mut Comparer, befores: &mut Befores) -> Outcome {
             for form in few_forms() {
                 let body = Planes::random(rng, form, width, height).body(form, width, height);
                 let sent = Sent { width, height, form, body: &body };
-                let (work, image) = sent.needs();
+                let (work, image) = befores.needs(sent);
                 let kind = Kind::PictureLongSides;
                 befores.compare(comparer, kind, sent, (work, image + 1))?;
                 befores.compare(comparer, kind, sent.with_body(&body[..body.len() - 1]), (work + 1, image))?;
@@ -151,12 +189,13 @@ fn largest(comparer: &mut Comparer) -> Outcome {
     let image = long(3 * width * height);
     let form = Form::aycocg(false, true, 3, true);
     let body = long(form.min_body(width, height));
-    let raw = Picture { width, height, form, body: &body, work: &[], image: &image };
+    let format = Format::Rgb24;
+    let raw = Picture { width, height, form, format, body: &body, work: &[], image: &image };
     comparer.compare_picture_at(Kind::PictureLargest, raw, &BOTH_SIDES[..1])?;
     let form = Form::argb(true, true);
     let body = [1, 2, 3, 4].map(|value| flat_plane(value, width, height)).concat();
-    let work = long(form.work_len(width, height));
-    let flat = Picture { width, height, form, body: &body, work: &work, image: &image };
+    let work = long(form.work_len(format, width, height));
+    let flat = Picture { width, height, form, format, body: &body, work: &work, image: &image };
     comparer.compare_picture_at(Kind::PictureLargest, flat, &BOTH_SIDES[1..])
 }
 

@@ -3,6 +3,7 @@
 use crate::case::MAX_SIDE;
 use crate::check::{Comparer, Outcome};
 use crate::extent::Extent;
+use crate::layout::{Format, BGRA, LAYOUTS};
 use crate::picture::{Form, OwnedPicture, Picture};
 use crate::planes::{self, Earlier, PlaneKind, PLANE_KINDS};
 use crate::rng::Rng;
@@ -102,40 +103,82 @@ pub struct Sent<'a> {
 }
 
 impl<'a> Sent<'a> {
-    /// The lengths that the work area and the image need. The sides are inside the domain.
-    pub fn needs(&self) -> (usize, usize) {
-        (self.form.work_len(self.width, self.height), 3 * self.width * self.height)
-    }
-
     /// The same with another body.
     pub fn with_body<'b>(&self, body: &'b [u8]) -> Sent<'b> {
         Sent { width: self.width, height: self.height, form: self.form, body }
     }
 }
 
+/// What pictures are unpacked to.
+pub enum Formats {
+    Rgb24,
+    /// Four-byte pixels: one of the layouts after the other, in no order.
+    Pixels(Rng),
+}
+
+impl Formats {
+    pub fn pixels() -> Formats {
+        Formats::Pixels(Rng::new(43))
+    }
+
+    /// One of them. All that there are need buffers of the same lengths.
+    fn any(&self) -> Format {
+        match self {
+            Formats::Rgb24 => Format::Rgb24,
+            Formats::Pixels(_) => Format::Pixels(BGRA),
+        }
+    }
+
+    fn next(&mut self) -> Format {
+        match self {
+            Formats::Rgb24 => Format::Rgb24,
+            Formats::Pixels(rng) => Format::Pixels(*rng.pick(&LAYOUTS)),
+        }
+    }
+}
+
 /// What work areas and images hold before a call: never one constant, and different from call to call. And whether a picture is passed
-/// as a body or as a stream.
+/// as a body or as a stream, and what it is unpacked to.
 pub struct Befores {
     work: Earlier,
     image: Earlier,
     extent: Extent,
+    formats: Formats,
     /// The bits of the next header byte that are ignored, and the next pad byte.
     ignored: u8,
 }
 
 impl Befores {
-    pub fn new(extent: Extent) -> Self {
+    pub fn new(extent: Extent, formats: Formats) -> Self {
         let mut image = Earlier::new();
         // A step ahead of the other, or both would hold the same.
         image.bytes(1);
-        Befores { work: Earlier::new(), image, extent, ignored: 0 }
+        Befores { work: Earlier::new(), image, extent, formats, ignored: 0 }
+    }
+
+    /// The lengths that the work area and the image need. The sides are inside the domain.
+    pub fn needs(&self, sent: Sent<'_>) -> (usize, usize) {
+        let format = self.formats.any();
+        (sent.form.work_len(format, sent.width, sent.height), format.bytes() * sent.width * sent.height)
+    }
+
+    /// The length that is enough for the work area of every form, and for the image. The sides are inside the domain.
+    pub fn most(&self, width: usize, height: usize) -> usize {
+        self.formats.any().bytes() * width * height
     }
 
     /// Compares a picture whose work area and image have these lengths. A form that has no header byte is not a stream's.
-    pub fn compare(
+    pub fn compare(&mut self, comparer: &mut Comparer, kind: Kind, sent: Sent<'_>, room: (usize, usize)) -> Outcome {
+        let format = self.formats.next();
+        self.compare_to(comparer, kind, format, sent, room)
+    }
+
+    /// The same, unpacked to this.
+    pub fn compare_to(
         &mut self,
         comparer: &mut Comparer,
         kind: Kind,
+        format: Format,
         sent: Sent<'_>,
         (work, image): (usize, usize),
     ) -> Outcome {
@@ -143,12 +186,14 @@ impl Befores {
         if self.extent == Extent::Stream {
             self.ignored = self.ignored.wrapping_add(0x4B);
             return match joined(form, self.ignored, body, self.ignored) {
-                Some(stream) => self.compare_stream(comparer, kind, (width, height), &stream, (work, image)),
+                Some(stream) => {
+                    self.compare_stream_to(comparer, kind, format, ((width, height), &stream), (work, image))
+                }
                 None => Ok(()),
             };
         }
         let (work, image) = (self.work.bytes(work), self.image.bytes(image));
-        comparer.compare_picture(kind, Picture { width, height, form, body, work, image })
+        comparer.compare_picture(kind, Picture { width, height, form, format, body, work, image })
     }
 
     /// Compares a stream whose work area and image have these lengths.
@@ -158,10 +203,23 @@ impl Befores {
         kind: Kind,
         (width, height): (usize, usize),
         stream: &[u8],
+        room: (usize, usize),
+    ) -> Outcome {
+        let format = self.formats.next();
+        self.compare_stream_to(comparer, kind, format, ((width, height), stream), room)
+    }
+
+    /// The same, unpacked to this.
+    pub fn compare_stream_to(
+        &mut self,
+        comparer: &mut Comparer,
+        kind: Kind,
+        format: Format,
+        ((width, height), stream): ((usize, usize), &[u8]),
         (work, image): (usize, usize),
     ) -> Outcome {
         let (work, image) = (self.work.bytes(work), self.image.bytes(image));
-        comparer.compare_stream(kind, Stream { width, height, stream, work, image })
+        comparer.compare_stream(kind, Stream { width, height, format, stream, work, image })
     }
 
     /// The same with slices that have what they need, or more of each by these.
@@ -172,7 +230,7 @@ impl Befores {
         sent: Sent<'_>,
         (work, image): (usize, usize),
     ) -> Outcome {
-        let needs = sent.needs();
+        let needs = self.needs(sent);
         self.compare(comparer, kind, sent, (needs.0 + work, needs.1 + image))
     }
 }

@@ -2,9 +2,10 @@
 
 use crate::check::{Comparer, Outcome};
 use crate::extent::Extent;
+use crate::layout::{Format, Layout, LAYOUTS, UNKNOWN};
 use crate::picture::case::{ARGB, AYCOCG};
-use crate::picture::planes::{Befores, Sent};
-use crate::picture::{Form, Planes};
+use crate::picture::planes::{Befores, Formats, Sent};
+use crate::picture::{Form, Planes, Sizes};
 use crate::planes::{self, Making};
 use crate::rng::Rng;
 use crate::tally::Kind;
@@ -16,11 +17,19 @@ const EVERY_LENGTH: usize = 60;
 pub struct Random {
     rng: Rng,
     befores: Befores,
+    extent: Extent,
+    four_bytes: bool,
 }
 
 impl Random {
     pub fn new(seed: u64, extent: Extent) -> Self {
-        Random { rng: Rng::new(seed), befores: Befores::new(extent) }
+        Random { rng: Rng::new(seed), befores: Befores::new(extent, Formats::Rgb24), extent, four_bytes: false }
+    }
+
+    /// The same pictures, unpacked to four-byte pixels.
+    pub fn pixels(seed: u64, extent: Extent) -> Self {
+        let befores = Befores::new(extent, Formats::Pixels(Rng::new(seed)));
+        Random { rng: Rng::new(seed), befores, extent, four_bytes: true }
     }
 
     /// Some cases of one kind.
@@ -29,6 +38,7 @@ impl Random {
             0..=4 => self.picture(comparer),
             5 => self.made(comparer),
             6 => self.noise(comparer),
+            _ if self.four_bytes && self.rng.once_in(2) => self.layouts(comparer),
             _ => self.outside(comparer),
         }
     }
@@ -110,7 +120,7 @@ impl Random {
 
     /// The body complete or truncated, in buffers that are short by one, or by more, or long enough.
     fn other_lengths(&mut self, comparer: &mut Comparer, sent: Sent<'_>) -> Outcome {
-        let needs = sent.needs();
+        let needs = self.befores.needs(sent);
         for _ in 0..6 {
             let end = if self.rng.once_in(3) { self.rng.below(sent.body.len()) } else { sent.body.len() };
             let room = (self.length(needs.0), self.length(needs.1));
@@ -172,6 +182,32 @@ impl Random {
             };
             let sent = Sent { width: sides.0, height: sides.1, form, body: &body };
             self.befores.compare(comparer, Kind::RandomRefused, sent, room)?;
+        }
+        Ok(())
+    }
+
+    /// Layouts that there are not, and some that there are, with anything else right or wrong; and the sizes of what is passed.
+    fn layouts(&mut self, comparer: &mut Comparer) -> Outcome {
+        for _ in 0..8 {
+            let (width, height) = match self.rng.below(4) {
+                0 => planes::sides_outside(&mut self.rng),
+                _ => (self.rng.within(1, 4), self.rng.within(1, 4)),
+            };
+            let form = if self.rng.once_in(4) { self.refused_form() } else { self.form() };
+            let layout = match self.rng.below(4) {
+                0 => *self.rng.pick(&LAYOUTS),
+                1 => *self.rng.pick(&UNKNOWN),
+                _ => Layout(self.any_number()),
+            };
+            let (len, room) = (self.rng.within(0, 90), (self.rng.within(0, 90), self.rng.within(0, 90)));
+            let body = self.rng.bytes(len);
+            let sent = Sent { width, height, form, body: &body };
+            self.befores.compare_to(comparer, Kind::RandomRefused, Format::Pixels(layout), sent, room)?;
+            if self.extent == Extent::Body {
+                let Form { rle, alpha, definition, subsampled, .. } = form;
+                let sizes = Sizes { width, height, rle, alpha: Some(alpha), definition, subsampled };
+                comparer.compare_sizes(Kind::SizesTable, sizes)?;
+            }
         }
         Ok(())
     }

@@ -2,6 +2,7 @@
 
 use crate::case::{BOUNDARY_SIDES, MAX_SIDE};
 use crate::check::{Comparer, Outcome};
+use crate::layout::{Format, Layout, LAYOUTS, UNKNOWN};
 use crate::picture::case::{ARGB, AYCOCG};
 use crate::picture::planes::{Befores, Sent};
 use crate::picture::{Form, Planes};
@@ -118,7 +119,7 @@ fn several_at_once(comparer: &mut Comparer, befores: &mut Befores) -> Outcome {
 
 /// A body of a picture of 2 x 3, right or short, with these sides and with wrong ones, in buffers right or short.
 fn in_all_sides(comparer: &mut Comparer, befores: &mut Befores, form: Form, body: &[u8]) -> Outcome {
-    let (work, image) = Sent { width: 2, height: 3, form, body }.needs();
+    let (work, image) = befores.needs(Sent { width: 2, height: 3, form, body });
     let short = form.min_body(2, 3) - 1;
     for width in [0, 2, MAX_SIDE + 1] {
         for height in [0, 3, MAX_SIDE + 1] {
@@ -158,16 +159,58 @@ fn lengths(comparer: &mut Comparer, befores: &mut Befores) -> Outcome {
 }
 
 fn in_rooms(comparer: &mut Comparer, befores: &mut Befores, sent: Sent<'_>) -> Outcome {
-    let (work, image) = sent.needs();
+    let (work, image) = befores.needs(sent);
     // What the planes have if they are not subsampled is a limit too, and so is what they have if the picture is raw.
     let full = 3 * sent.width * sent.height;
     let planes = sent.form.colour_samples(sent.width, sent.height);
-    let mut works = vec![0, work.saturating_sub(1), work, work + 1, work + 50, full - 1, full, planes - 1];
+    let mut works = vec![0, work.saturating_sub(1), work, work + 1, work + 50, full - 1, full, planes - 1, planes];
     works.sort_unstable();
     works.dedup();
     for work in works {
-        for image in [0, image - 1, image, image + 1, image + 50] {
+        // The last two are what three bytes a pixel need.
+        for image in [0, image - 1, image, image + 1, image + 50, full - 1, full] {
             befores.compare(comparer, Kind::PictureLengths, sent, (work, image))?;
+        }
+    }
+    Ok(())
+}
+
+/// All layouts under 300 and wider ones, with bodies and buffers that are right and wrong; and with other refusals at once. With levels and
+/// definitions that are refused too a stream has no header byte.
+pub fn run_layouts(comparer: &mut Comparer, befores: &mut Befores) -> Outcome {
+    let rng = &mut Rng::new(45);
+    let (width, height) = (3, 2);
+    for (form, layout) in
+        few_forms().flat_map(|form| (0..300).map(Layout).chain(UNKNOWN).map(move |layout| (form, layout)))
+    {
+        let body = Planes::random(rng, form, width, height).body(form, width, height);
+        let (sent, short) = (Sent { width, height, form, body: &body }, form.min_body(width, height) - 1);
+        for body in [&body[..], &body[..short], &[]] {
+            let (sent, (work, image)) = (sent.with_body(body), befores.needs(sent));
+            for room in [(work, image), (work.saturating_sub(1), image), (work, image - 1), (0, 0)] {
+                befores.compare_to(comparer, Kind::PictureLayouts, Format::Pixels(layout), sent, room)?;
+            }
+        }
+    }
+    for layout in LAYOUTS.into_iter().chain(UNKNOWN) {
+        let levels = [0, 1, 8, 257].map(|level| Form::aycocg(true, true, level, false));
+        for form in
+            levels.into_iter().chain([Form::argb(false, true), Form { definition: 2, ..Form::argb(true, true) }])
+        {
+            layout_in_all_sides(comparer, befores, Format::Pixels(layout), form)?;
+        }
+    }
+    Ok(())
+}
+
+/// Wrong sides with this layout, in buffers that are long enough and without any.
+fn layout_in_all_sides(comparer: &mut Comparer, befores: &mut Befores, format: Format, form: Form) -> Outcome {
+    for (width, height) in
+        [0, 2, MAX_SIDE + 1].into_iter().flat_map(|width| [0, 3, MAX_SIDE + 1].map(|height| (width, height)))
+    {
+        for (body, room) in [(&[0x10; 60][..], (30, 30)), (&[0x10; 60], (30, 0)), (&[0x10; 60], (0, 0)), (&[], (0, 0))]
+        {
+            befores.compare_to(comparer, Kind::PictureOrder, format, Sent { width, height, form, body }, room)?;
         }
     }
     Ok(())

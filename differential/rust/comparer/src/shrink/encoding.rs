@@ -2,8 +2,9 @@
 
 use super::call::lower_side;
 use super::plane::{without_columns, without_rows};
-use super::{lower, lower_bytes, pieces, plain};
+use super::{lower, lower_bytes, lower_layouts, pieces, plain};
 use crate::encoding::{OwnedEncoding, Sources};
+use crate::layout::BGRA;
 
 /// Of form, sides, source lengths, destination length, samples and the destination's content each lowers one and none that
 /// stands before it, so shrinking ends.
@@ -36,18 +37,35 @@ fn refitted(case: &OwnedEncoding, changed: OwnedEncoding) -> impl Iterator<Item 
     fitted.into_iter().chain([changed])
 }
 
-/// Raw for RLE, three planes for four.
+/// Lower layouts, with the pixels rearranged or as they are; raw for RLE, three planes for four.
 fn with_plainer_form(case: &OwnedEncoding) -> impl Iterator<Item = OwnedEncoding> + '_ {
     let raw = case.rle.then(|| OwnedEncoding { rle: false, ..case.clone() });
     let sources = match &case.sources {
         Sources::Channels { colours, alpha: Some(_) } => {
             Some(Sources::Channels { colours: colours.clone(), alpha: None })
         }
-        Sources::Pixels { pixels, alpha: true } => Some(Sources::Pixels { pixels: pixels.clone(), alpha: false }),
+        Sources::Pixels { pixels, layout, alpha: true } => {
+            Some(Sources::Pixels { pixels: pixels.clone(), layout: *layout, alpha: false })
+        }
         _ => None,
     };
     let three = sources.map(|sources| OwnedEncoding { sources, ..case.clone() });
-    raw.into_iter().chain(three).flat_map(|changed| refitted(case, changed))
+    with_lower_layout(case).chain(raw.into_iter().chain(three).flat_map(|changed| refitted(case, changed)))
+}
+
+fn with_lower_layout(case: &OwnedEncoding) -> impl Iterator<Item = OwnedEncoding> + '_ {
+    let layout = case.sources.layout().unwrap_or(BGRA);
+    lower_layouts(layout).flat_map(move |lower| {
+        let of = |pixels: &dyn Fn(&[u8]) -> Vec<u8>| match &case.sources {
+            Sources::Pixels { pixels: old, alpha, .. } => {
+                let sources = Sources::Pixels { pixels: pixels(old), layout: lower, alpha: *alpha };
+                Some(OwnedEncoding { sources, ..case.clone() })
+            }
+            Sources::Channels { .. } => None,
+        };
+        let rearranged = of(&|pixels| layout.rearranged(pixels, lower));
+        rearranged.into_iter().chain(of(&<[u8]>::to_vec))
+    })
 }
 
 /// Lower heights and widths for the same sources.

@@ -1,7 +1,8 @@
 //! Smaller pictures.
 
 use super::call::lower_side;
-use super::{lower, lower_bytes, pieces, plain};
+use super::{lower, lower_bytes, lower_layouts, pieces, plain};
+use crate::layout::Format;
 use crate::picture::{Form, OwnedPicture, Planes, Sizes};
 use crate::planes::segment_starts;
 use std::ops::Range;
@@ -12,17 +13,18 @@ const LONG: usize = 1 << 16;
 /// Of bodies up to this length segments are left out.
 const SHORT: usize = 64;
 
-/// Of form, sides, body length, slice lengths, bytes and the slices' content each lowers one and none that stands before it,
+/// Of layout, form, sides, body length, slice lengths, bytes and the slices' content each lowers one and none that stands before it,
 /// so shrinking ends.
 pub fn smaller(case: &OwnedPicture) -> impl Iterator<Item = OwnedPicture> + '_ {
     let long = case.body.len() > LONG;
-    let short_image = case.image.len() < needs(case.form, case.width, case.height).1;
+    let short_image = case.image.len() < needs(case, case.form, case.width, case.height).1;
     let shorter_slices = (long && short_image).then(|| with_shorter_slices(case));
     let smaller_planes = long.then(|| with_smaller_planes(case));
     shorter_slices
         .into_iter()
         .flatten()
         .chain(smaller_planes.into_iter().flatten())
+        .chain(with_lower_layout(case))
         .chain(with_plainer_form(case))
         .chain(with_lower_sides(case))
         .chain(with_smaller_planes(case))
@@ -34,11 +36,13 @@ pub fn smaller(case: &OwnedPicture) -> impl Iterator<Item = OwnedPicture> + '_ {
 }
 
 /// The minimum sizes of the work area and the image, or the largest number.
-fn needs(form: Form, width: usize, height: usize) -> (usize, usize) {
+fn needs(case: &OwnedPicture, form: Form, width: usize, height: usize) -> (usize, usize) {
     let (chroma_width, chroma_height) = form.chroma_sides(width, height);
     let chroma = chroma_width.saturating_mul(chroma_height).saturating_mul(2);
     let full = width.saturating_mul(height);
-    (if form.rle { full.saturating_add(chroma) } else { 0 }, full.saturating_mul(3))
+    let alpha = if form.alpha && case.format.keeps_alpha() { full } else { 0 };
+    let work = if form.rle { full.saturating_add(chroma).saturating_add(alpha) } else { 0 };
+    (work, full.saturating_mul(case.format.bytes()))
 }
 
 /// As many bytes as the slice had beyond what was needed, or lacked, with another need.
@@ -56,10 +60,17 @@ fn refitted(bytes: &[u8], needed: usize, needs: usize) -> Vec<u8> {
 
 /// The case with another form, other sides and another body, its slices fitted to them.
 fn remade(case: &OwnedPicture, form: Form, (width, height): (usize, usize), body: Vec<u8>) -> OwnedPicture {
-    let (old, new) = (needs(case.form, case.width, case.height), needs(form, width, height));
+    let (old, new) = (needs(case, case.form, case.width, case.height), needs(case, form, width, height));
     let work = refitted(&case.work, old.0, new.0);
     let image = refitted(&case.image, old.1, new.1);
-    OwnedPicture { width, height, form, body, work, image }
+    OwnedPicture { width, height, form, format: case.format, body, work, image }
+}
+
+/// Lower layouts of four-byte pixels.
+fn with_lower_layout(case: &OwnedPicture) -> impl Iterator<Item = OwnedPicture> + '_ {
+    let layout = if let Format::Pixels(layout) = case.format { Some(layout) } else { None };
+    let lower = layout.into_iter().flat_map(lower_layouts);
+    lower.map(|layout| OwnedPicture { format: Format::Pixels(layout), ..case.clone() })
 }
 
 /// Simpler forms: raw for RLE, no alpha, no subsampling, lower definitions and levels.
@@ -184,7 +195,7 @@ fn with_shorter_body(case: &OwnedPicture) -> impl Iterator<Item = OwnedPicture> 
 
 /// Shorter work areas, then shorter images; what is just needed, if that is shorter, goes first.
 fn with_shorter_slices(case: &OwnedPicture) -> impl Iterator<Item = OwnedPicture> + '_ {
-    let needs = needs(case.form, case.width, case.height);
+    let needs = needs(case, case.form, case.width, case.height);
     let shorter = |len: usize, exact: usize| Some(exact).filter(|&exact| exact < len).into_iter().chain(lower(len));
     let works = shorter(case.work.len(), needs.0).map(|len| {
         let mut smaller = case.clone();
@@ -217,6 +228,7 @@ pub fn smaller_sizes(case: &Sizes) -> impl Iterator<Item = Sizes> + '_ {
         lower(case.definition as usize).map(|definition| Sizes { definition: definition as u32, ..*case });
     let flags = [
         case.rle.then_some(Sizes { rle: false, ..*case }),
+        (case.alpha == Some(true)).then_some(Sizes { alpha: Some(false), ..*case }),
         case.subsampled.then_some(Sizes { subsampled: false, ..*case }),
     ];
     heights.chain(widths).chain(definitions).chain(flags.into_iter().flatten())

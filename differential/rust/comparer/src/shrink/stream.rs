@@ -8,10 +8,10 @@ use crate::stream::{OwnedStream, OwnedStreamSize};
 
 /// The picture of a stream. Without a header byte its form is the plainest one.
 pub fn picture(case: &OwnedStream) -> OwnedPicture {
-    let &OwnedStream { width, height, .. } = case;
+    let &OwnedStream { width, height, format, .. } = case;
     let form = form_of(case.stream.first().copied().unwrap_or(0x20));
     let body = split(&case.stream).map_or(Vec::new(), |parts| parts.body.to_vec());
-    OwnedPicture { width, height, form, body, work: case.work.clone(), image: case.image.clone() }
+    OwnedPicture { width, height, form, format, body, work: case.work.clone(), image: case.image.clone() }
 }
 
 /// Streams that lack a part, then with plainer ignored bits, then what makes the stream's picture smaller. Of these each lowers one and
@@ -47,14 +47,14 @@ fn with_byte(stream: &[u8], at: usize, byte: u8) -> Vec<u8> {
 /// The case with another picture, if that has a header byte. A raw stream keeps its pad byte, and one that was RLE gets one. A stream that
 /// lacks a part keeps lacking it.
 fn with_picture(case: &OwnedStream, picture: OwnedPicture) -> Option<OwnedStream> {
-    let OwnedPicture { width, height, form, body, work, image } = picture;
+    let OwnedPicture { width, height, form, format, body, work, image } = picture;
     let (first, last) = (case.stream.first().copied().unwrap_or(0), case.stream.last().copied().unwrap_or(0));
     let pad = if form_of(first).rle { 0 } else { last };
     let mut stream = joined(form, first, &body, pad)?;
     if split(&case.stream).is_err() {
         stream.truncate(case.stream.len());
     }
-    Some(OwnedStream { width, height, stream, work, image })
+    Some(OwnedStream { width, height, format, stream, work, image })
 }
 
 /// Lower sides, shorter streams, lower header bytes.

@@ -5,7 +5,7 @@ use crate::stream::OwnedStream;
 use crate::tally::Kind;
 
 /// A case, its answer as a library gives it, and its image after the call.
-type Example = (&'static str, i64, &'static str);
+pub type Example = (&'static str, i64, &'static str);
 
 #[rustfmt::skip]
 pub const EXAMPLES: [Example; 36] = [
@@ -54,8 +54,57 @@ pub const EXAMPLES: [Example; 36] = [
     ("su 2 2 3103*6 EE*12 EE*12", -9, "EE*12"),
 ];
 
+/// The same of four-byte pixels.
+#[rustfmt::skip]
+pub const PIXELS_EXAMPLES: [Example; 30] = [
+    // Raw and RLE, without alpha and with it, in each layout.
+    ("xs 1 1 bgra 2001020300 - EE*4", 4, "030201FF"),
+    ("xs 1 1 rgba 2001020300 - EE*4", 4, "010203FF"),
+    ("xs 1 1 argb 000401020300 - EE*4", 4, "04010203"),
+    ("xs 1 1 abgr 000401020300 - EE*4", 4, "04030201"),
+    ("xs 1 1 bgra 30100110021003 EEEEEE EE*4", 4, "030201FF"),
+    ("xs 1 1 bgra 101004100110021003 EE*4 EE*4", 4, "03020104"),
+    ("xs 1 1 argb 101004100110021003 EE*4 EE*4", 4, "04010203"),
+    // AYCoCg; without alpha red and blue are exchanged, as in three bytes.
+    ("xs 1 1 rgba 01FF640A1400 - EE*4", 4, "5A7846FF"),
+    ("xs 1 1 rgba 21640A1400 - EE*4", 4, "46785AFF"),
+    ("xs 1 1 abgr 0280644000EE - EE*4", 4, "80E46400"),
+    ("xs 2 2 rgba 392001022002041003100A EE*6 EE*16", 16, "000B00FF000C00FF000C00FF000E00FF"),
+    // Bits 6 and 7 are ignored, and so is bit 3 of ARGB.
+    ("xs 1 1 bgra E001020300 - EE*4", 4, "030201FF"),
+    ("xs 2 1 rgba 28010203040506EE - EE*8", 8, "010305FF020406FF"),
+    // The work area has room for alpha, if that is flagged; the image four bytes a pixel.
+    ("xs 1 1 bgra 101004100110021003 EEEEEE EE*4", -5, "EE*4"),
+    ("xs 1 1 bgra 30100110021003 EEEE EE*4", -5, "EE*4"),
+    ("xs 1 1 bgra 2001020300 - EEEEEE", -6, "EEEEEE"),
+    // 13 and 14 before 1 and 2, those before 3, 3 before all others.
+    ("xs 0 9000 4 - EE EE", -13, "EE"),
+    ("xs 9000 0 4 00 EE EE", -14, "EE"),
+    ("xs 0 1 4 30 - -", -1, "-"),
+    ("xs 1 9000 4 2000 - -", -2, "-"),
+    ("xs 1 1 4 2000 - -", -3, "-"),
+    ("xs 1 1 256 2001020300 - EE*4", -3, "EE*4"),
+    ("xs 1 1 257 30100110021003 EE*4 EE*4", -3, "EE*4"),
+    ("xs 1 1 4294967295 3000000000 - -", -3, "-"),
+    ("xs 1 1 bgra 2000 - EE*4", -4, "EE*4"),
+    ("xs 1 1 bgra 10000000 - -", -4, "-"),
+    ("xs 1 1 bgra 1000000000 - -", -5, "-"),
+    ("xs 1 1 bgra 1000000000 EE*4 -", -6, "-"),
+    ("xs 1 1 bgra 1000000000 EE*4 EE*4", -8, "EE*4"),
+    ("xs 2 2 bgra 3103*6 EE*12 EE*16", -9, "EE*16"),
+];
+
+/// Those cases.
+pub fn run_pixels(comparer: &mut Comparer) -> Outcome {
+    run_table(comparer, &PIXELS_EXAMPLES)
+}
+
 pub fn run(comparer: &mut Comparer) -> Outcome {
-    for (text, _, _) in EXAMPLES {
+    run_table(comparer, &EXAMPLES)
+}
+
+fn run_table(comparer: &mut Comparer, examples: &[Example]) -> Outcome {
+    for (text, _, _) in examples {
         let case = OwnedStream::parse(text).expect("the table's own text");
         comparer.compare_stream(Kind::StreamExamples, case.view())?;
     }
@@ -64,14 +113,14 @@ pub fn run(comparer: &mut Comparer) -> Outcome {
 
 #[cfg(test)]
 mod tests {
-    use super::EXAMPLES;
+    use super::{EXAMPLES, PIXELS_EXAMPLES};
     use crate::bytes;
     use crate::stream::OwnedStream;
 
     /// IronRDP inside the domain, and the order of FORMAT 8 outside, give the answers of the table.
     #[test]
     fn examples_have_these_answers() {
-        for (text, answer, image) in EXAMPLES {
+        for (text, answer, image) in EXAMPLES.into_iter().chain(PIXELS_EXAMPLES) {
             let case = OwnedStream::parse(text).unwrap();
             let mut made = Vec::new();
             let expected = match case.view().refused_outside() {

@@ -5,6 +5,7 @@ use comparer::case::MAX_SIDE;
 use comparer::picture::case::{ARGB, AYCOCG};
 use comparer::picture::check::Pictures;
 use comparer::picture::Form;
+use comparer::{Format, Layout};
 
 /// A buffer of a call. `read` and `write` do not check the index: a planted mistake may be out of bounds, as it would be in a library.
 #[derive(Clone, Copy)]
@@ -44,6 +45,7 @@ impl Slice {
 /// What a decoder is called with.
 pub struct Call {
     pub form: Form,
+    pub format: Format,
     pub width: usize,
     pub height: usize,
     pub body: Slice,
@@ -101,7 +103,7 @@ pub trait Decoder {
         [
             call.width == 0 || call.height == 0,
             call.width > Self::max_side() || call.height > Self::max_side(),
-            Self::level_refused(call.form),
+            Self::level_refused(call.form) || Self::layout_refused(call.format),
             call.body.len < Self::min_body(call),
             call.work.len < Self::min_work(call),
             call.image.len < Self::min_image(call),
@@ -118,6 +120,10 @@ pub trait Decoder {
             AYCOCG => form.level == 0 || form.level > 7,
             _ => true,
         }
+    }
+
+    fn layout_refused(format: Format) -> bool {
+        matches!(format, Format::Pixels(Layout(number)) if number > 3)
     }
 
     fn is_subsampled(form: Form) -> bool {
@@ -160,14 +166,23 @@ pub trait Decoder {
 
     fn min_work(call: &Call) -> usize {
         if call.form.rle {
-            Self::colour_len(call)
+            Self::colour_len(call).saturating_add(Self::kept_alpha_len(call))
+        } else {
+            0
+        }
+    }
+
+    /// The samples of an alpha plane that is kept behind the colour planes.
+    fn kept_alpha_len(call: &Call) -> usize {
+        if call.format.keeps_alpha() && call.form.alpha {
+            call.full()
         } else {
             0
         }
     }
 
     fn min_image(call: &Call) -> usize {
-        call.full().saturating_mul(3)
+        call.full().saturating_mul(call.format.bytes())
     }
 
     /// Where the colour planes lie in the work area, and one behind the other in a raw body.
@@ -190,7 +205,17 @@ pub trait Decoder {
     }
 
     fn unpack_alpha(call: &mut Call) -> Result<usize, i64> {
-        Self::unpack_plane(call, 0, 0, (call.width, call.height))
+        let to = Self::alpha_offset(call);
+        Self::unpack_plane(call, 0, to, (call.width, call.height))
+    }
+
+    /// Where alpha is unpacked to: to the place of the first colour plane, or behind all of them if it is kept.
+    fn alpha_offset(call: &Call) -> usize {
+        if call.format.keeps_alpha() {
+            Self::colour_len(call)
+        } else {
+            0
+        }
     }
 
     /// Unpacks the plane at a place of the body to a place of the work area. The answer is the bytes read.
@@ -226,9 +251,37 @@ pub trait Decoder {
         let starts = Self::offsets(call);
         for pixel in 0..call.full() {
             let colour = Self::pixel(call, &planes, starts, pixel);
-            let to = Self::place(call, pixel);
-            call.image.bytes_mut()[3 * to..3 * to + 3].copy_from_slice(&colour);
+            let to = Self::place(call, pixel) * call.format.bytes();
+            match call.format {
+                Format::Rgb24 => call.image.bytes_mut()[to..to + 3].copy_from_slice(&colour),
+                Format::Pixels(layout) => {
+                    let [r, g, b] = colour;
+                    let samples = [r, g, b, Self::alpha(call, pixel)];
+                    let places = Self::places(layout.0);
+                    places.into_iter().zip(samples).for_each(|(at, sample)| call.image.bytes_mut()[to + at] = sample);
+                }
+            }
         }
+    }
+
+    /// The places of R, G, B and A in a pixel.
+    fn places(layout: u32) -> [usize; 4] {
+        match layout {
+            0 => [2, 1, 0, 3],
+            1 => [0, 1, 2, 3],
+            2 => [1, 2, 3, 0],
+            _ => [3, 2, 1, 0],
+        }
+    }
+
+    /// The alpha of a pixel.
+    fn alpha(call: &Call, pixel: usize) -> u8 {
+        if !call.form.alpha {
+            return 255;
+        }
+        // A planted mistake may read outside the slice.
+        let (slice, at) = if call.form.rle { (call.work, Self::alpha_offset(call)) } else { (call.body, 0) };
+        slice.bytes().get(at + pixel).copied().unwrap_or(0)
     }
 
     /// Where in the image a pixel goes.
@@ -291,7 +344,7 @@ pub trait Decoder {
 
     /// The answer of a picture that is not refused.
     fn finish(call: &mut Call) -> i64 {
-        3 * call.full() as i64
+        (call.format.bytes() * call.full()) as i64
     }
 
     fn work_size(rle: bool, definition: u32, subsampled: bool, width: usize, height: usize) -> usize {
@@ -312,6 +365,17 @@ pub trait Decoder {
         } else {
             0
         }
+    }
+
+    fn pixels_work_size(form: Form, width: usize, height: usize) -> usize {
+        match Self::work_size(form.rle, form.definition, form.subsampled, width, height) {
+            0 => 0,
+            colours => colours + usize::from(form.alpha) * width * height,
+        }
+    }
+
+    fn pixels_image_size(width: usize, height: usize) -> usize {
+        Self::image_size(width, height) / 3 * 4
     }
 }
 
@@ -344,12 +408,56 @@ unsafe extern "C" fn decode<D: Decoder>(
 ) -> i64 {
     D::decode(&mut Call {
         form: Form { rle, alpha, definition, level, subsampled },
+        format: Format::Rgb24,
         width,
         height,
         body: Slice { at: body.cast_mut(), len: body_len },
         work: Slice { at: work, len: work_len },
         image: Slice { at: image, len: image_len },
     })
+}
+
+#[allow(clippy::too_many_arguments)]
+unsafe extern "C" fn decode_pixels<D: Decoder>(
+    rle: bool,
+    alpha: bool,
+    definition: u32,
+    level: u32,
+    subsampled: bool,
+    layout: u32,
+    body: *const u8,
+    body_len: usize,
+    work: *mut u8,
+    work_len: usize,
+    image: *mut u8,
+    image_len: usize,
+    width: usize,
+    height: usize,
+) -> i64 {
+    D::decode(&mut Call {
+        form: Form { rle, alpha, definition, level, subsampled },
+        format: Format::Pixels(Layout(layout)),
+        width,
+        height,
+        body: Slice { at: body.cast_mut(), len: body_len },
+        work: Slice { at: work, len: work_len },
+        image: Slice { at: image, len: image_len },
+    })
+}
+
+unsafe extern "C" fn pixels_work_size<D: Decoder>(
+    rle: bool,
+    alpha: bool,
+    definition: u32,
+    subsampled: bool,
+    width: usize,
+    height: usize,
+) -> usize {
+    D::pixels_work_size(Form { rle, alpha, definition, level: 1, subsampled }, width, height)
+}
+
+unsafe extern "C" fn pixels_image_size<D: Decoder>(width: usize, height: usize) -> usize {
+    D::pixels_image_size(width, height)
 }
 
 unsafe extern "C" fn work_size<D: Decoder>(
@@ -368,5 +476,12 @@ unsafe extern "C" fn image_size<D: Decoder>(width: usize, height: usize) -> usiz
 
 /// The functions of a decoder as C declares them.
 pub const fn pictures<D: Decoder>() -> Pictures {
-    Pictures { decode: decode::<D>, work_size: work_size::<D>, image_size: image_size::<D> }
+    Pictures {
+        decode: decode::<D>,
+        work_size: work_size::<D>,
+        image_size: image_size::<D>,
+        decode_pixels: decode_pixels::<D>,
+        pixels_work_size: pixels_work_size::<D>,
+        pixels_image_size: pixels_image_size::<D>,
+    }
 }

@@ -16,6 +16,8 @@ pub enum Given {
 /// What an encoder is called with.
 pub struct Call {
     pub given: Given,
+    /// The layout of pixels; 0 with channels.
+    pub layout: u32,
     /// Whether A is to be packed too.
     pub alpha: bool,
     pub rle: bool,
@@ -70,10 +72,21 @@ pub trait Encoder {
     /// The refusal before anything is read, or 0.
     fn refused(call: &Call) -> i64 {
         let tests = Self::tests(call);
-        Self::order().into_iter().find(|&at| tests[at].0).map_or(0, |at| tests[at].1)
+        let mut ordered = Self::order().map(|at| tests[at]).to_vec();
+        ordered.insert(Self::layout_order(), (Self::layout_refused(call.layout), 3));
+        ordered.into_iter().find(|test| test.0).map_or(0, |test| test.1)
     }
 
-    /// The order of the tests.
+    fn layout_refused(layout: u32) -> bool {
+        layout > 3
+    }
+
+    /// How many of the other tests come before that of the layout.
+    fn layout_order() -> usize {
+        2
+    }
+
+    /// The order of the other tests.
     fn order() -> [usize; 3] {
         [0, 1, 2]
     }
@@ -123,7 +136,18 @@ pub trait Encoder {
         4
     }
 
-    /// Where a channel lies in a pixel.
+    /// Where a channel lies in a pixel of a layout.
+    fn place_in(layout: u32, channel: Channel) -> usize {
+        let places = match layout {
+            0 => return Self::place(channel),
+            1 => [0, 1, 2, 3],
+            2 => [1, 2, 3, 0],
+            _ => [3, 2, 1, 0],
+        };
+        places[channel as usize]
+    }
+
+    /// Where a channel lies in a pixel of B, G, R and A.
     fn place(channel: Channel) -> usize {
         match channel {
             R => 2,
@@ -142,7 +166,7 @@ pub trait Encoder {
     fn sample(call: &Call, channel: Channel, at: usize) -> u8 {
         let (slice, at) = match &call.given {
             Given::Channels(slices) => (&slices[channel as usize], at),
-            Given::Pixels(pixels) => (pixels, at * Self::stride(call) + Self::place(channel)),
+            Given::Pixels(pixels) => (pixels, at * Self::stride(call) + Self::place_in(call.layout, channel)),
         };
         slice.bytes().get(at).copied().unwrap_or(0)
     }
@@ -234,7 +258,7 @@ unsafe extern "C" fn channels<E: Encoder>(
     height: usize,
 ) -> i64 {
     let given = Given::Channels(vec![slice(r, r_len), slice(g, g_len), slice(b, b_len)]);
-    E::encode(&mut Call { given, alpha: false, rle, width, height, dst: slice(dst, dst_len) })
+    E::encode(&mut Call { given, layout: 0, alpha: false, rle, width, height, dst: slice(dst, dst_len) })
 }
 
 #[allow(clippy::too_many_arguments)]
@@ -254,10 +278,12 @@ unsafe extern "C" fn channels_alpha<E: Encoder>(
     height: usize,
 ) -> i64 {
     let given = Given::Channels(vec![slice(r, r_len), slice(g, g_len), slice(b, b_len), slice(a, a_len)]);
-    E::encode(&mut Call { given, alpha: true, rle, width, height, dst: slice(dst, dst_len) })
+    E::encode(&mut Call { given, layout: 0, alpha: true, rle, width, height, dst: slice(dst, dst_len) })
 }
 
+#[allow(clippy::too_many_arguments)]
 unsafe extern "C" fn bitmap<E: Encoder, const ALPHA: bool>(
+    layout: u32,
     src: *const u8,
     src_len: usize,
     dst: *mut u8,
@@ -267,7 +293,7 @@ unsafe extern "C" fn bitmap<E: Encoder, const ALPHA: bool>(
     height: usize,
 ) -> i64 {
     let given = Given::Pixels(slice(src, src_len));
-    E::encode(&mut Call { given, alpha: ALPHA, rle, width, height, dst: slice(dst, dst_len) })
+    E::encode(&mut Call { given, layout, alpha: ALPHA, rle, width, height, dst: slice(dst, dst_len) })
 }
 
 /// The functions of an encoder as C declares them.

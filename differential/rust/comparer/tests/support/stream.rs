@@ -7,12 +7,14 @@ use comparer::case::MAX_SIDE;
 use comparer::picture::case::{ARGB, AYCOCG};
 use comparer::picture::Form;
 use comparer::stream::check::Streams;
+use comparer::{Format, Layout};
 use std::marker::PhantomData;
 
 /// What a stream decoder is called with.
 pub struct StreamCall {
     pub width: usize,
     pub height: usize,
+    pub format: Format,
     pub stream: Slice,
     pub work: Slice,
     pub image: Slice,
@@ -26,10 +28,10 @@ pub trait StreamDecoder {
             return -refused;
         }
         let form = Self::form(Self::header(call));
-        let StreamCall { width, height, stream, work, image } = *call;
+        let StreamCall { width, height, format, stream, work, image } = *call;
         let from = Self::body_start();
         let body = Slice { at: stream.at.wrapping_add(from), len: Self::body_len(stream.len, form) };
-        Self::decode_body(&mut decoder::Call { form, width, height, body, work, image })
+        Self::decode_body(&mut decoder::Call { form, format, width, height, body, work, image })
     }
 
     fn decode_body(call: &mut decoder::Call) -> i64 {
@@ -97,9 +99,23 @@ pub trait StreamDecoder {
     fn work_size_of(form: Form, width: usize, height: usize) -> usize {
         let sides = 1..=MAX_SIDE;
         if sides.contains(&width) && sides.contains(&height) {
-            form.work_len(width, height)
+            form.work_len(Format::Rgb24, width, height)
         } else {
             0
+        }
+    }
+
+    fn pixels_work_size(stream: Slice, width: usize, height: usize) -> usize {
+        if stream.len == 0 {
+            return 0;
+        }
+        Self::pixels_work_size_of(Self::form(stream.read(0)), width, height)
+    }
+
+    fn pixels_work_size_of(form: Form, width: usize, height: usize) -> usize {
+        match Self::work_size_of(form, width, height) {
+            0 => 0,
+            colours => colours + usize::from(form.alpha) * width * height,
         }
     }
 }
@@ -194,10 +210,42 @@ unsafe extern "C" fn decode<D: StreamDecoder>(
     D::decode(&mut StreamCall {
         width,
         height,
+        format: Format::Rgb24,
         stream: Slice { at: stream.cast_mut(), len: stream_len },
         work: Slice { at: work, len: work_len },
         image: Slice { at: image, len: image_len },
     })
+}
+
+#[allow(clippy::too_many_arguments)]
+unsafe extern "C" fn decode_pixels<D: StreamDecoder>(
+    layout: u32,
+    stream: *const u8,
+    stream_len: usize,
+    work: *mut u8,
+    work_len: usize,
+    image: *mut u8,
+    image_len: usize,
+    width: usize,
+    height: usize,
+) -> i64 {
+    D::decode(&mut StreamCall {
+        width,
+        height,
+        format: Format::Pixels(Layout(layout)),
+        stream: Slice { at: stream.cast_mut(), len: stream_len },
+        work: Slice { at: work, len: work_len },
+        image: Slice { at: image, len: image_len },
+    })
+}
+
+unsafe extern "C" fn pixels_work_size<D: StreamDecoder>(
+    stream: *const u8,
+    stream_len: usize,
+    width: usize,
+    height: usize,
+) -> usize {
+    D::pixels_work_size(Slice { at: stream.cast_mut(), len: stream_len }, width, height)
 }
 
 unsafe extern "C" fn work_size<D: StreamDecoder>(
@@ -211,5 +259,11 @@ unsafe extern "C" fn work_size<D: StreamDecoder>(
 
 /// The functions of a decoder and of an encoder as C declares them.
 pub const fn streams<D: StreamDecoder, E: StreamEncoder>() -> Streams {
-    Streams { decode: decode::<D>, work_size: work_size::<D>, encoders: encoders::<Whole<E>>() }
+    Streams {
+        decode: decode::<D>,
+        work_size: work_size::<D>,
+        decode_pixels: decode_pixels::<D>,
+        pixels_work_size: pixels_work_size::<D>,
+        encoders: encoders::<Whole<E>>(),
+    }
 }
