@@ -25,12 +25,6 @@ enum-known-split c = search needs
 enum-known-split-2 : tie.Need-enum-known-split-2
 enum-known-split-2 c = search needs
 
-returns : tie.Need-returns
-returns c =
-    let a = c .before .before .before .before .before .before .before .args in
-    let s = c .before .before .before .split-stream in
-    left-as _ _ _ _ _ (split-refused (λ (header : BitmapStreamHeader) (body : List ℕ). unpackTo (formatToForm (a .format)) header (a .width) (a .height) body (a .work .now) (a .image .now)) (a .work .now) (a .image .now) (a .stream .now) (s .result) (s .ensures .0) (c .before .split .given .0 .0) (c .before .split .given .1)) (refl, (refl, refl))
-
 sub-decode-to : tie.Need-sub-decode-to
 sub-decode-to c = omega (arith, ends c)
 
@@ -39,6 +33,12 @@ part-decode-to-start c = omega (arith, ends c)
 
 part-decode-to-end : tie.Need-part-decode-to-end
 part-decode-to-end c = omega (arith, ends c)
+
+returns : tie.Need-returns
+returns c =
+    let a = c .before .before .before .before .before .before .before .args in
+    let s = c .before .before .before .split-stream in
+    left-as _ _ _ _ _ (split-refused (λ (header : BitmapStreamHeader) (body : List ℕ). unpackTo (formatToForm (a .format)) header (a .width) (a .height) body (a .work .now) (a .image .now)) (a .work .now) (a .image .now) (a .stream .now) (s .result) (s .ensures .0) (c .before .split .given .0 .0) (c .before .split .given .1)) (refl, (refl, refl))
 
 decode-to-requires : tie.Need-decode-to-requires
 decode-to-requires c κs = search needs
@@ -63,11 +63,11 @@ decode-stream-to-spec =
     split-stream-requires
     enum-known-split
     enum-known-split-2
-    returns
     sub-decode-to
     part-decode-to-start
     part-decode-to-end
     decode-to-requires
+    returns
     same-length
     same-length-2
     returns-2)
