@@ -48,7 +48,7 @@ pub packed-fits : (a : Packed) → ((n : ℕ) → a ≡ packed.Written n → n <
 packed-fits (packed.Written n) h = count-fits n (h n refl)
 packed-fits (packed.Refused r) h = refusal-fits (number r) (number-max r)
 
-pub decoded-fits : (a : Decoded) → ((n : ℕ) → a ≡ decoded.Written n → n ≤ 201326592) → SFits w64 (cNumber (decodedToAnswer a))
+pub decoded-fits : (a : Decoded) → ((n : ℕ) → a ≡ decoded.Written n → n ≤ 268435456) → SFits w64 (cNumber (decodedToAnswer a))
 decoded-fits (decoded.Written n) h = count-fits n (omega (arith, h n refl))
 decoded-fits (decoded.Refused r) h = refusal-fits (number r) (number-max r)
 

@@ -1,7 +1,7 @@
 -- The layout of the pixels, from an argument of a C function, and what a call does by it.
 use Prim.Native.Nat.{ℕ}
 use mathlib.Core.Bool.{Bool, true, false}
-use mathlib.Core.List.{List}
+use mathlib.Core.List.{List, []}
 use lib.Dec.{eqb}
 use Rattle.rle_format.specs.Answer.{Answer, refused, Outcome, stop}
 use Rattle.rle_format.specs.Choice.{choose}
@@ -9,12 +9,14 @@ use Rattle.rle_format.specs.Sides.{checkSides}
 use Rattle.pixel_format.specs.declared.PixelLayout.{PixelLayout}
 use Rattle.pixel_format.specs.declared.PixelLayout.the-variants.{BgrA, RgbA, ARgb, ABgr}
 use Rattle.pixel_format.specs.Channel.{ChannelOffsets, channelOffsets}
+use Rattle.bitmap_format.specs.declared.BitmapStreamHeader.{BitmapStreamHeader}
+use Rattle.bitmap_format.specs.Picture.{PictureOutcome, unpackPixels}
 use Rattle.bitmap_format.specs.PackPicture.{pixelPlanes, pixelPlanesAlpha, packPicture}
-use Rattle.bitmap_format.specs.Stream.{StreamOutcome, packPictureStream}
+use Rattle.bitmap_format.specs.Stream.{unpackStreamBy, StreamOutcome, packPictureStream}
 use Rattle.rdp6.specs.declared.CLayout.{CLayout}
 use Rattle.rdp6.specs.declared.CLayout.the-variants.{Known, Unknown}
 
--- the layout that a number means (FORMAT 7.1). No other number means one
+-- the layout that a number means (FORMAT 6.6). No other number means one
 unfoldable pub cLayout : (layout : ℕ) → CLayout
 cLayout layout =
     choose (eqb layout 0)
@@ -51,3 +53,23 @@ unchangedStream dst answer = record { slice = dst; answer = answer }
 abbrev pub cPackPixelsStream : (alpha rle : Bool) (width height : ℕ) (pixels dst : List ℕ) → CLayout → StreamOutcome
 cPackPixelsStream alpha rle width height pixels dst =
     byLayout (unchangedStream dst) width height (λ (layout : PixelLayout). packPictureStream alpha rle width height (planesOfPixels alpha (channelOffsets layout) pixels) dst)
+
+-- ---- unpacking
+
+-- a picture that is not unpacked: work area and image stay as they are
+abbrev pub unchangedPicture : (work image : List ℕ) → Answer → PictureOutcome
+unchangedPicture work image answer = record { work = work; image = image; answer = answer }
+
+-- unpacking a body to four-byte pixels
+abbrev pub cUnpackPixels : CLayout → BitmapStreamHeader → (width height : ℕ) (body work image : List ℕ) → PictureOutcome
+cUnpackPixels layout header width height body work image =
+    byLayout (unchangedPicture work image) width height (λ (l : PixelLayout). unpackPixels (channelOffsets l) header width height body work image) layout
+
+-- unpacking a stream to four-byte pixels: refusals 13 and 14 come before that of the layout
+abbrev pub cUnpackPixelStream : CLayout → (width height : ℕ) (stream work image : List ℕ) → PictureOutcome
+cUnpackPixelStream layout width height stream work image =
+    unpackStreamBy (λ (header : BitmapStreamHeader) (body : List ℕ). cUnpackPixels layout header width height body work image) work image stream
+
+-- the answer with an unknown layout
+abbrev pub unknownLayoutOfStream : (width height : ℕ) (stream : List ℕ) → Answer
+unknownLayoutOfStream width height stream = cUnpackPixelStream Unknown width height stream [] [] .answer

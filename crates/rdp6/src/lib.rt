@@ -9,23 +9,30 @@ ghost use Rattle.rle_format.specs.Sides.{checkSides};
 ghost use Rattle.rle_format.specs.Slice.{overwrite};
 ghost use Rattle.rle_format.specs.Unpack.{unpackPlane};
 ghost use Rattle.rle_format.specs.Pack.{packPlane};
+ghost use Rattle.pixel_format.specs.Channel.{bgrA};
+ghost use Rattle.bitmap_format.specs.Pixels.{threeBytes, fourBytes};
 ghost use Rattle.bitmap_format.specs.Sizes.{workSize, imageSize};
 ghost use Rattle.bitmap_format.specs.Picture.{unpackPicture, decodedToAnswer};
 ghost use Rattle.bitmap_format.specs.PackPicture.{threePlanes, fourPlanes, packPicture, encodedToAnswer, dropHeader};
 ghost use Rattle.bitmap_format.specs.Stream.{unpackStream, streamWorkSize, packPictureStream};
 ghost use Rattle.rdp6.specs.Number.{cNumber};
 ghost use Rattle.rdp6.specs.Header.{cLevel, cDefinition, cHeader};
-ghost use Rattle.rdp6.specs.Layout.{cLayout, unknownLayout, cPackPixels, cPackPixelsStream};
+ghost use Rattle.rdp6.specs.Layout.{cLayout, unknownLayout, cPackPixels, cPackPixelsStream, cUnpackPixels, unknownLayoutOfStream, cUnpackPixelStream};
+use bitmap_decoder::decode_pixels;
 use bitmap_format::BitmapStreamHeader;
 use bitmap_format::ColorPlaneDefinition;
 use bitmap_format::Decoded;
 use bitmap_format::Encoded;
+use bitmap_stream::Split;
+use bitmap_stream::decode_bitmap_stream_to_pixels;
 use bitmap_stream::decode_bitmap_stream_to_rgb24;
 use bitmap_stream::encode_bitmap;
 use bitmap_stream::encode_bitmap_alpha;
 use bitmap_stream::encode_channels_stream;
 use bitmap_stream::encode_channels_stream_alpha;
+use bitmap_stream::split_stream;
 use bitmap_stream::stream_work_size;
+use pixel_format::PixelFormat;
 use pixel_format::PixelLayout;
 use rle_format::MAX_SIDE;
 use rle_format::Packed;
@@ -61,9 +68,9 @@ fn packed_number(answer: Packed) -> i64
     }
 }
 
-// The answer of unpacking a picture. No image has more than 3 × 8,192 × 8,192 bytes.
+// The answer of unpacking a picture. No image has more than 4 × 8,192 × 8,192 bytes.
 fn decoded_number(answer: Decoded) -> i64
-    requires { ⌜ ((n : ℕ) → answer ≡ Decoded.Written n → n ≤ 201326592) ⌝ }
+    requires { ⌜ ((n : ℕ) → answer ≡ Decoded.Written n → n ≤ 268435456) ⌝ }
     ensures { λ r. ⌜ r ≡ cNumber (decodedToAnswer answer) ⌝ }
 {
     match answer {
@@ -223,17 +230,70 @@ pub extern "C" fn rdp6_work_size(
     width: usize,
     height: usize,
 ) -> usize
-    ensures { λ r. ⌜ r ≡ checkSides (λ (_ : ℕ). 0) width height (workSize (cHeader rle false definition 0 subsampling) width height) ⌝ }
+    ensures { λ r. ⌜ r ≡ checkSides (λ (_ : ℕ). 0) width height (workSize threeBytes (cHeader rle false definition 0 subsampling) width height) ⌝ }
 {
     let header = header_of(rle, false, definition, 0, subsampling);
-    bitmap_format::work_size(header, width, height)
+    let format = PixelFormat::Rgb24;
+    bitmap_format::work_size(format, header, width, height)
 }
 
 #[no_mangle]
 pub extern "C" fn rdp6_image_size(width: usize, height: usize) -> usize
-    ensures { λ r. ⌜ r ≡ checkSides (λ (_ : ℕ). 0) width height (imageSize width height) ⌝ }
+    ensures { λ r. ⌜ r ≡ checkSides (λ (_ : ℕ). 0) width height (imageSize threeBytes width height) ⌝ }
 {
-    bitmap_format::image_size(width, height)
+    let format = PixelFormat::Rgb24;
+    bitmap_format::image_size(format, width, height)
+}
+
+#[no_mangle]
+pub extern "C" fn rdp6_decode_pixels(
+    rle: bool,
+    alpha: bool,
+    definition: u32,
+    level: u32,
+    subsampling: bool,
+    layout: u32,
+    body: &[u8],
+    work: &mut [u8],
+    image: &mut [u8],
+    width: usize,
+    height: usize,
+) -> i64
+    ensures answer { λ r. ⌜ r ≡ cNumber (cUnpackPixels (cLayout layout) (cHeader rle alpha definition level subsampling) width height (now (body .entry)) (now (work .entry)) (now (image .entry)) .answer) ⌝ }
+    ensures work { λ _. ⌜ now (work .exit) ≡ cUnpackPixels (cLayout layout) (cHeader rle alpha definition level subsampling) width height (now (body .entry)) (now (work .entry)) (now (image .entry)) .work ⌝ }
+    ensures image { λ _. ⌜ now (image .exit) ≡ cUnpackPixels (cLayout layout) (cHeader rle alpha definition level subsampling) width height (now (body .entry)) (now (work .entry)) (now (image .entry)) .image ⌝ }
+{
+    let known = layout_of(layout);
+    let CLayout::Known(pixels) = known else {
+        return layout_refusal(width, height);
+    };
+    let header = header_of(rle, alpha, definition, level, subsampling);
+    decoded_number(decode_pixels(pixels, header, body, work, image, width, height))
+}
+
+// The sizes are the same in every layout.
+#[no_mangle]
+pub extern "C" fn rdp6_pixels_work_size(
+    rle: bool,
+    alpha: bool,
+    definition: u32,
+    subsampling: bool,
+    width: usize,
+    height: usize,
+) -> usize
+    ensures { λ r. ⌜ r ≡ checkSides (λ (_ : ℕ). 0) width height (workSize (fourBytes bgrA) (cHeader rle alpha definition 0 subsampling) width height) ⌝ }
+{
+    let header = header_of(rle, alpha, definition, 0, subsampling);
+    let format = PixelFormat::FourBytes(PixelLayout::BgrA);
+    bitmap_format::work_size(format, header, width, height)
+}
+
+#[no_mangle]
+pub extern "C" fn rdp6_pixels_image_size(width: usize, height: usize) -> usize
+    ensures { λ r. ⌜ r ≡ checkSides (λ (_ : ℕ). 0) width height (imageSize (fourBytes bgrA) width height) ⌝ }
+{
+    let format = PixelFormat::FourBytes(PixelLayout::BgrA);
+    bitmap_format::image_size(format, width, height)
 }
 
 #[no_mangle]
@@ -328,9 +388,49 @@ pub extern "C" fn rdp6_stream_decode(
 
 #[no_mangle]
 pub extern "C" fn rdp6_stream_work_size(stream: &[u8], width: usize, height: usize) -> usize
-    ensures { λ r. ⌜ r ≡ checkSides (λ (_ : ℕ). 0) width height (streamWorkSize width height (now (stream .entry))) ⌝ }
+    ensures { λ r. ⌜ r ≡ checkSides (λ (_ : ℕ). 0) width height (streamWorkSize threeBytes width height (now (stream .entry))) ⌝ }
 {
-    stream_work_size(stream, width, height)
+    let format = PixelFormat::Rgb24;
+    stream_work_size(format, stream, width, height)
+}
+
+// The answer of unpacking a stream to an unknown layout: refusal 13 or 14 of the stream, or else that of the layout.
+fn stream_layout_refusal(stream: &[u8], width: usize, height: usize) -> i64
+    ensures { λ r. ⌜ r ≡ cNumber (unknownLayoutOfStream width height (now (stream .entry))) ⌝ }
+{
+    let split = split_stream(stream);
+    match split {
+        Split::Refused(reason) => refusal_number(reason),
+        Split::Body { header: _, end: _ } => layout_refusal(width, height),
+    }
+}
+
+#[no_mangle]
+pub extern "C" fn rdp6_stream_decode_pixels(
+    layout: u32,
+    stream: &[u8],
+    work: &mut [u8],
+    image: &mut [u8],
+    width: usize,
+    height: usize,
+) -> i64
+    ensures answer { λ r. ⌜ r ≡ cNumber (cUnpackPixelStream (cLayout layout) width height (now (stream .entry)) (now (work .entry)) (now (image .entry)) .answer) ⌝ }
+    ensures work { λ _. ⌜ now (work .exit) ≡ cUnpackPixelStream (cLayout layout) width height (now (stream .entry)) (now (work .entry)) (now (image .entry)) .work ⌝ }
+    ensures image { λ _. ⌜ now (image .exit) ≡ cUnpackPixelStream (cLayout layout) width height (now (stream .entry)) (now (work .entry)) (now (image .entry)) .image ⌝ }
+{
+    let known = layout_of(layout);
+    let CLayout::Known(pixels) = known else {
+        return stream_layout_refusal(stream, width, height);
+    };
+    decoded_number(decode_bitmap_stream_to_pixels(pixels, stream, work, image, width, height))
+}
+
+#[no_mangle]
+pub extern "C" fn rdp6_stream_pixels_work_size(stream: &[u8], width: usize, height: usize) -> usize
+    ensures { λ r. ⌜ r ≡ checkSides (λ (_ : ℕ). 0) width height (streamWorkSize (fourBytes bgrA) width height (now (stream .entry))) ⌝ }
+{
+    let format = PixelFormat::FourBytes(PixelLayout::BgrA);
+    stream_work_size(format, stream, width, height)
 }
 
 #[no_mangle]

@@ -6,6 +6,7 @@ use mir.Val.{SFits}
 use mir.Syntax.{w64}
 use Rattle.bitmap_format.specs.declared.BitmapStreamHeader.{BitmapStreamHeader}
 use Rattle.bitmap_format.specs.declared.Decoded.the-variants.{Written}
+use Rattle.bitmap_format.specs.Pixels.{threeBytes}
 use Rattle.bitmap_format.specs.Picture.{unpackPicture, decodedToAnswer}
 use Rattle.bitmap_format.proofs.Picture.{image-count-max}
 use Rattle.rdp6.specs.Number.{cNumber}
@@ -15,10 +16,10 @@ use Rattle.rdp6.proofs.rdp6_decode.Statement.{statement}
 use Rattle.rdp6.proofs.rdp6_decode.Tie as tie
 
 -- a picture that was written has few bytes
-few : (c : tie.After-decode) (n : ℕ) → c .decode .result ≡ Written n → n ≤ 201326592
+few : (c : tie.After-decode) (n : ℕ) → c .decode .result ≡ Written n → n ≤ 268435456
 few c n e =
     let a = c .before .before .before .before .before .before .before .args in
-    image-count-max (c .before .before .before .header-of .result) (a .width) (a .height) (a .body .now) (a .work .now) (a .image .now) n (sym (c .decode .ensures .0) ∙ ap decodedToAnswer e)
+    image-count-max threeBytes (c .before .before .before .header-of .result) (a .width) (a .height) (a .body .now) (a .work .now) (a .image .now) n (sym (c .decode .ensures .0) ∙ ap decodedToAnswer e)
 
 header-of-requires : tie.Need-header-of-requires
 header-of-requires c κs = search needs

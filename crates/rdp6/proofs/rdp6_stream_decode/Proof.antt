@@ -5,6 +5,7 @@ use mir.Facts.{toZ-ofZ}
 use mir.Val.{SFits}
 use mir.Syntax.{w64}
 use Rattle.bitmap_format.specs.declared.Decoded.the-variants.{Written}
+use Rattle.bitmap_format.specs.Pixels.{threeBytes}
 use Rattle.bitmap_format.specs.Picture.{decodedToAnswer}
 use Rattle.bitmap_format.proofs.StreamCounts.{stream-image-count-max}
 use Rattle.rdp6.specs.Number.{cNumber}
@@ -14,10 +15,10 @@ use Rattle.rdp6.proofs.rdp6_stream_decode.Statement.{statement}
 use Rattle.rdp6.proofs.rdp6_stream_decode.Tie as tie
 
 -- a picture that was written has few bytes
-few : (c : tie.After-decode-bitmap-stream-to-rgb24) (n : ℕ) → c .decode-bitmap-stream-to-rgb24 .result ≡ Written n → n ≤ 201326592
+few : (c : tie.After-decode-bitmap-stream-to-rgb24) (n : ℕ) → c .decode-bitmap-stream-to-rgb24 .result ≡ Written n → n ≤ 268435456
 few c n e =
     let a = c .before .before .before .before .before .before .args in
-    stream-image-count-max (a .width) (a .height) (a .stream .now) (a .work .now) (a .image .now) n (sym (c .decode-bitmap-stream-to-rgb24 .ensures .0) ∙ ap decodedToAnswer e)
+    stream-image-count-max threeBytes (a .width) (a .height) (a .stream .now) (a .work .now) (a .image .now) n (sym (c .decode-bitmap-stream-to-rgb24 .ensures .0) ∙ ap decodedToAnswer e)
 
 decode-bitmap-stream-to-rgb24-requires : tie.Need-decode-bitmap-stream-to-rgb24-requires
 decode-bitmap-stream-to-rgb24-requires c κs = search needs
