@@ -2,6 +2,7 @@
 // newline. A function that reads a field gets the index `start` of its first byte. It returns the field's value and, as `next`,
 // the index after the byte that ends the field. A field whose index is outside the line is malformed.
 use crate::report::Answer;
+use pixel_format::PixelLayout;
 ghost use mathlib.Core.Path.{_≡_};
 ghost use mathlib.Core.Bool.{_&&_};
 ghost use lib.Dec.{ltb};
@@ -21,6 +22,12 @@ pub enum Number {
 // The expected answer of a case.
 pub enum ParsedAnswer {
     Value { answer: Answer, next: usize },
+    Malformed,
+}
+
+// The layout of a case's pixels.
+pub enum ParsedLayout {
+    Value(PixelLayout),
     Malformed,
 }
 
@@ -125,6 +132,17 @@ pub fn next_answer(line: &[u8], start: usize) -> ParsedAnswer
     ParsedAnswer::Value {
         answer: Answer { refused, number },
         next,
+    }
+}
+
+// The layout (FORMAT 7.1) that a line has as a number.
+pub fn layout_of(number: usize) -> ParsedLayout {
+    match number {
+        0 => ParsedLayout::Value(PixelLayout::BgrA),
+        1 => ParsedLayout::Value(PixelLayout::RgbA),
+        2 => ParsedLayout::Value(PixelLayout::ARgb),
+        3 => ParsedLayout::Value(PixelLayout::ABgr),
+        _ => ParsedLayout::Malformed,
     }
 }
 

@@ -19,6 +19,7 @@ use case_lines::read;
 use case_lines::read::Bytes;
 use case_lines::read::MAX_NUMBERS;
 use case_lines::read::ParsedAnswer;
+use case_lines::read::ParsedLayout;
 use case_lines::report;
 use case_lines::report::Answer;
 use case_lines::report::LineResult;
@@ -93,11 +94,6 @@ struct Case {
 
 enum ParsedCase {
     Value(Case),
-    Malformed,
-}
-
-enum ParsedLayout {
-    Value(PixelLayout),
     Malformed,
 }
 
@@ -188,22 +184,14 @@ fn parse_case(source: SourceKind, result: ResultKind, line: &[u8]) -> ParsedCase
     let after_sides = read::next_numbers(line, 0, SIDE_COUNT, &mut sides);
     let after_layout = read::next_numbers(line, after_sides, layout_count(source), &mut layouts);
     let start = read::next_numbers(line, after_layout, COUNT_BEFORE_ANSWER, &mut numbers);
-    let ParsedLayout::Value(layout) = layout_of(layouts[LAYOUT]) else {
+    let ParsedLayout::Value(layout) = read::layout_of(layouts[LAYOUT]) else {
         return ParsedCase::Malformed;
     };
     let ParsedAnswer::Value { answer, next } = read::next_answer(line, start) else {
         return ParsedCase::Malformed;
     };
     let end = read::next_numbers(line, next, count_after_answer(result), &mut sent);
-    if !read::are_flags(
-        numbers[RLE],
-        numbers[ALPHA],
-        sent[SENT_RLE],
-        sent[SENT_ALPHA],
-    ) {
-        return ParsedCase::Malformed;
-    }
-    if 1 < sent[SENT_DEFINITION] {
+    if !has_flags(numbers, sent) {
         return ParsedCase::Malformed;
     }
     ParsedCase::Value(Case {
@@ -233,14 +221,15 @@ fn layout_count(source: SourceKind) -> usize {
     }
 }
 
-fn layout_of(number: usize) -> ParsedLayout {
-    match number {
-        0 => ParsedLayout::Value(PixelLayout::BgrA),
-        1 => ParsedLayout::Value(PixelLayout::RgbA),
-        2 => ParsedLayout::Value(PixelLayout::ARgb),
-        3 => ParsedLayout::Value(PixelLayout::ABgr),
-        _ => ParsedLayout::Malformed,
-    }
+// Whether the flags before and after the answer are 0 or 1.
+fn has_flags(numbers: [usize; MAX_NUMBERS], sent: [usize; MAX_NUMBERS]) -> bool {
+    read::are_flags(
+        numbers[RLE],
+        numbers[ALPHA],
+        sent[SENT_RLE],
+        sent[SENT_ALPHA],
+    )
+        && sent[SENT_DEFINITION] < 2
 }
 
 // How many numbers a line has after the answer.

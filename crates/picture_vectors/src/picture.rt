@@ -1,10 +1,13 @@
-// Replays one case of unpacking a picture, from its body or from a whole stream. The case is one line:
+// Replays one case of unpacking a picture, from its body or from a whole stream, to three or four bytes a pixel. The case is one line:
 //     WIDTH HEIGHT RLE ALPHA DEFINITION LEVEL SUBSAMPLED WORKROOM IMAGEROOM ANSWER BODY WORK-AFTER IMAGE-AFTER
+//     WIDTH HEIGHT RLE ALPHA DEFINITION LEVEL SUBSAMPLED LAYOUT WORKROOM IMAGEROOM ANSWER BODY WORK-AFTER IMAGE-AFTER
 //     WIDTH HEIGHT WORKROOM IMAGEROOM WORKSIZE ANSWER STREAM WORK-AFTER IMAGE-AFTER
+//     WIDTH HEIGHT LAYOUT WORKROOM IMAGEROOM WORKSIZE ANSWER STREAM WORK-AFTER IMAGE-AFTER
 // RLE, ALPHA and SUBSAMPLED are 0 or 1, LEVEL is 0 to 255. DEFINITION is 0 for ARGB, which ignores LEVEL and SUBSAMPLED, and 1 for
-// AYCoCg. WORKROOM and IMAGEROOM are the lengths of the work area and of the image. WORKSIZE is the minimum size of the work area,
-// which `stream_work_size` returns. ANSWER is the number of bytes written, or the negative of a refusal's number. WORK-AFTER and
-// IMAGE-AFTER have all bytes of both after the call. Bytes are written as in a plane's line.
+// AYCoCg. LAYOUT is that of four-byte pixels (FORMAT 7.1): 0 is BGRA, 1 RGBA, 2 ARGB, 3 ABGR. WORKROOM and IMAGEROOM are the lengths of
+// the work area and of the image. WORKSIZE is the minimum size of the work area, which `stream_work_size` returns. ANSWER is the number
+// of bytes written, or the negative of a refusal's number. WORK-AFTER and IMAGE-AFTER have all bytes of both after the call. Bytes are
+// written as in a plane's line.
 use bitmap_format::BitmapStreamHeader;
 use bitmap_format::ColorPlaneDefinition;
 use bitmap_format::Decoded;
@@ -16,9 +19,12 @@ use case_lines::read;
 use case_lines::read::Bytes;
 use case_lines::read::MAX_NUMBERS;
 use case_lines::read::ParsedAnswer;
+use case_lines::read::ParsedLayout;
 use case_lines::report;
 use case_lines::report::Answer;
 use case_lines::report::LineResult;
+use pixel_format::PixelFormat;
+use pixel_format::PixelLayout;
 ghost use Prim.Native.Nat.{_+_, _≤_};
 ghost use lib.ListN.{length};
 
@@ -28,7 +34,13 @@ pub(crate) enum SourceKind {
     Stream,
 }
 
-// The numbers before the answer come in three groups. These are the indexes of the first group, the sides, and how many they are.
+// What it is unpacked to: three bytes a pixel, or four in a layout. This, too, is the same for all cases of a file.
+pub(crate) enum ImageKind {
+    Rgb24,
+    Pixels,
+}
+
+// The numbers before the answer come in four groups. These are the indexes of the first group, the sides, and how many they are.
 const WIDTH: usize = 0;
 
 const HEIGHT: usize = 1;
@@ -47,6 +59,11 @@ const LEVEL: usize = 3;
 const SUBSAMPLED: usize = 4;
 
 const HEADER_COUNT: usize = 5;
+
+// The same for the layout, which only the line of four-byte pixels has.
+const LAYOUT: usize = 0;
+
+const LAYOUT_COUNT: usize = 1;
 
 // The same for the sizes. Only the line of a stream has the last of them.
 const WORK_ROOM: usize = 0;
@@ -67,7 +84,8 @@ struct Returned {
 
 // The numbers of a case, and the index of the field of its body or stream. The header record is not used for a stream.
 struct Case {
-    kind: SourceKind,
+    source: SourceKind,
+    format: PixelFormat,
     header: BitmapStreamHeader,
     width: usize,
     height: usize,
@@ -94,19 +112,19 @@ enum FieldComparison {
 }
 
 // Replays the case of a line.
-pub(crate) fn replay(kind: SourceKind, line: &[u8]) -> LineResult {
-    let ParsedCase::Value(case) = parse_case(kind, line) else {
+pub(crate) fn replay(source: SourceKind, image: ImageKind, line: &[u8]) -> LineResult {
+    let ParsedCase::Value(case) = parse_case(source, image, line) else {
         return LineResult::Malformed;
     };
-    let mut source = guarded::new_array();
-    let mut work = guarded::new_array();
-    let mut image = guarded::new_array();
+    let mut source_buffer = guarded::new_array();
+    let mut work_buffer = guarded::new_array();
+    let mut image_buffer = guarded::new_array();
     replay_with_buffers(
         case,
         line,
-        &mut source[GUARD_SIZE..GUARD_SIZE + MAX_SLICE],
-        &mut work,
-        &mut image,
+        &mut source_buffer[GUARD_SIZE..GUARD_SIZE + MAX_SLICE],
+        &mut work_buffer,
+        &mut image_buffer,
     )
 }
 
@@ -142,21 +160,27 @@ fn replay_with_buffers(
 }
 
 // Reads the numbers of a case. Those that its line does not have are 0.
-fn parse_case(kind: SourceKind, line: &[u8]) -> ParsedCase {
+fn parse_case(source: SourceKind, image: ImageKind, line: &[u8]) -> ParsedCase {
     let mut sides = [0usize; MAX_NUMBERS];
     let mut form = [0usize; MAX_NUMBERS];
+    let mut layouts = [0usize; MAX_NUMBERS];
     let mut sizes = [0usize; MAX_NUMBERS];
     let after_sides = read::next_numbers(line, 0, SIDES_COUNT, &mut sides);
-    let after_form = read::next_numbers(line, after_sides, header_count(kind), &mut form);
-    let start = read::next_numbers(line, after_form, sizes_count(kind), &mut sizes);
+    let after_form = read::next_numbers(line, after_sides, header_count(source), &mut form);
+    let after_layout = read::next_numbers(line, after_form, layout_count(image), &mut layouts);
+    let start = read::next_numbers(line, after_layout, sizes_count(source), &mut sizes);
     let ParsedAnswer::Value { answer, next } = read::next_answer(line, start) else {
         return ParsedCase::Malformed;
     };
     let ParsedHeader::Value(header) = header_of(form) else {
         return ParsedCase::Malformed;
     };
+    let ParsedLayout::Value(layout) = read::layout_of(layouts[LAYOUT]) else {
+        return ParsedCase::Malformed;
+    };
     ParsedCase::Value(Case {
-        kind,
+        source,
+        format: format_of(image, layout),
         header,
         width: sides[WIDTH],
         height: sides[HEIGHT],
@@ -171,16 +195,24 @@ fn parse_case(kind: SourceKind, line: &[u8]) -> ParsedCase {
 }
 
 // How many numbers a line has for the header record.
-fn header_count(kind: SourceKind) -> usize {
-    match kind {
+fn header_count(source: SourceKind) -> usize {
+    match source {
         SourceKind::Body => HEADER_COUNT,
         SourceKind::Stream => 0,
     }
 }
 
+// How many it has for the layout.
+fn layout_count(image: ImageKind) -> usize {
+    match image {
+        ImageKind::Rgb24 => 0,
+        ImageKind::Pixels => LAYOUT_COUNT,
+    }
+}
+
 // How many it has for the sizes.
-fn sizes_count(kind: SourceKind) -> usize {
-    match kind {
+fn sizes_count(source: SourceKind) -> usize {
+    match source {
         SourceKind::Body => BODY_SIZES_COUNT,
         SourceKind::Stream => STREAM_SIZES_COUNT,
     }
@@ -213,6 +245,13 @@ fn definition_of(definition: usize, level: u8, subsampled: usize) -> ColorPlaneD
     }
 }
 
+fn format_of(image: ImageKind, layout: PixelLayout) -> PixelFormat {
+    match image {
+        ImageKind::Rgb24 => PixelFormat::Rgb24,
+        ImageKind::Pixels => PixelFormat::FourBytes(layout),
+    }
+}
+
 // Makes the calls of a case.
 fn call(case: Case, bytes: &[u8], work: &mut [u8], image: &mut [u8]) -> Returned {
     guarded::prepare(work);
@@ -224,22 +263,54 @@ fn call(case: Case, bytes: &[u8], work: &mut [u8], image: &mut [u8]) -> Returned
 }
 
 fn work_size(case: Case, bytes: &[u8]) -> usize {
-    let kind = case.kind;
-    match kind {
+    let source = case.source;
+    let format = case.format;
+    let width = case.width;
+    let height = case.height;
+    match source {
         SourceKind::Body => 0,
-        SourceKind::Stream => bitmap_stream::stream_work_size(bytes, case.width, case.height),
+        SourceKind::Stream => bitmap_stream::stream_work_size(format, bytes, width, height),
     }
 }
 
 fn decode(case: Case, bytes: &[u8], work: &mut [u8], image: &mut [u8]) -> Decoded {
-    let kind = case.kind;
+    let format = case.format;
+    match format {
+        PixelFormat::Rgb24 => decode_to_rgb24(case, bytes, work, image),
+        PixelFormat::FourBytes(layout) => decode_to_pixels(layout, case, bytes, work, image),
+    }
+}
+
+fn decode_to_rgb24(case: Case, bytes: &[u8], work: &mut [u8], image: &mut [u8]) -> Decoded {
+    let source = case.source;
     let header = case.header;
     let width = case.width;
     let height = case.height;
-    match kind {
+    match source {
         SourceKind::Body => bitmap_decoder::decode(header, bytes, work, image, width, height),
         SourceKind::Stream => {
             bitmap_stream::decode_bitmap_stream_to_rgb24(bytes, work, image, width, height)
+        }
+    }
+}
+
+fn decode_to_pixels(
+    layout: PixelLayout,
+    case: Case,
+    bytes: &[u8],
+    work: &mut [u8],
+    image: &mut [u8],
+) -> Decoded {
+    let source = case.source;
+    let header = case.header;
+    let width = case.width;
+    let height = case.height;
+    match source {
+        SourceKind::Body => {
+            bitmap_decoder::decode_pixels(layout, header, bytes, work, image, width, height)
+        }
+        SourceKind::Stream => {
+            bitmap_stream::decode_bitmap_stream_to_pixels(layout, bytes, work, image, width, height)
         }
     }
 }

@@ -7,10 +7,10 @@ use Rattle.picture_vectors.proofs.replay_text.Statement.{statement}
 use Rattle.picture_vectors.proofs.replay_text.Tie as tie
 
 abbrev Inv-loop : tie.InvT-loop
-Inv-loop kind path text case₀ case = (case .start ≤ case .end) × (case .end ≤ length text)
+Inv-loop source image path text case₀ case = (case .start ≤ case .end) × (case .end ≤ length text)
 
 abbrev μ-loop : tie.MeasureT-loop
-μ-loop kind path text case₀ case = length text - case .start
+μ-loop source image path text case₀ case = length text - case .start
 
 first-case-requires : tie.Need-first-case-requires Inv-loop μ-loop
 first-case-requires c κs = search needs
