@@ -8,11 +8,12 @@ use Rattle.rle_format.specs.Answer.{Answer, counted, refused}
 use Rattle.pixel_format.specs.declared.PixelFormat.{PixelFormat}
 use Rattle.pixel_format.specs.declared.PixelFormat.the-variants.{Rgb24, FourBytes}
 use Rattle.pixel_format.specs.declared.PixelLayout.the-variants.{BgrA, RgbA, ARgb, ABgr}
+use Rattle.pixel_format.specs.Channel.{ChannelOffsets, rgbA}
 use Rattle.bitmap_format.specs.declared.BitmapStreamHeader.{BitmapStreamHeader}
 use Rattle.bitmap_format.specs.Pixels.{formatToForm}
 use Rattle.bitmap_format.specs.Sizes.{workSize, imageSize}
-use Rattle.bitmap_format.specs.Picture.{PictureOutcome, unpackTo}
-use Rattle.bitmap_format.specs.Stream.{unpackStreamTo, streamWorkSize}
+use Rattle.bitmap_format.specs.Picture.{PictureOutcome, unpackTo, unpackPixels}
+use Rattle.bitmap_format.specs.Stream.{unpackStreamTo, unpackPixelStream, streamWorkSize}
 use Rattle.bitmap_format.specs.Examples.{unwritten, argb, subsampledHeader, aycocg}
 
 pub data Example : Type 0 where
@@ -20,6 +21,9 @@ pub data Example : Type 0 where
   unpacks : PixelFormat → BitmapStreamHeader → (width height : ℕ) (body work image : List ℕ) → Answer → Example
   -- the same for a stream
   unpacksStream : PixelFormat → (width height : ℕ) (stream work image : List ℕ) → Answer → Example
+  -- both for four-byte pixels with these offsets; the work area is empty
+  unpacksPixels : ChannelOffsets → BitmapStreamHeader → (width height : ℕ) (body image : List ℕ) → Answer → Example
+  unpacksPixelStream : ChannelOffsets → (width height : ℕ) (stream image : List ℕ) → Answer → Example
   -- the minimum sizes of work area and image
   sizes : PixelFormat → BitmapStreamHeader → (width height work image : ℕ) → Example
   -- the minimum size of the work area of a stream
@@ -38,6 +42,8 @@ computed (unpacks format header w h body work image a) =
     unpackTo (formatToForm format) header w h body (unwritten (length work)) (unwritten (length image))
 computed (unpacksStream format w h stream work image a) =
     unpackStreamTo (formatToForm format) w h stream (unwritten (length work)) (unwritten (length image))
+computed (unpacksPixels p header w h body image a) = unpackPixels p header w h body [] (unwritten (length image))
+computed (unpacksPixelStream p w h stream image a) = unpackPixelStream p w h stream [] (unwritten (length image))
 computed (sizes format header w h work image) = numbers (workSize (formatToForm format) header w h ∷ imageSize (formatToForm format) w h ∷ [])
 computed (streamSize format w h stream work) = numbers (streamWorkSize (formatToForm format) w h stream ∷ [])
 
@@ -45,6 +51,8 @@ computed (streamSize format w h stream work) = numbers (streamWorkSize (formatTo
 abbrev pub expected : Example → PictureOutcome
 expected (unpacks format header w h body work image a) = outcome work image a
 expected (unpacksStream format w h stream work image a) = outcome work image a
+expected (unpacksPixels p header w h body image a) = outcome [] image a
+expected (unpacksPixelStream p w h stream image a) = outcome [] image a
 expected (sizes format header w h work image) = numbers (work ∷ image ∷ [])
 expected (streamSize format w h stream work) = numbers (work ∷ [])
 
@@ -160,5 +168,12 @@ streams =
     ∷ streamSize (FourBytes BgrA) 3 3 [] 0
     ∷ []
 
+-- One wide and two high, raw, with alpha: the colours 1 3 5 and 2 4 6, alpha 8 and 9
+abbrev pub tall : List Example
+tall =
+    unpacksPixels rgbA (argb false true) 1 2 (8 ∷ 9 ∷ 1 ∷ 2 ∷ 3 ∷ 4 ∷ 5 ∷ 6 ∷ []) (1 ∷ 3 ∷ 5 ∷ 8 ∷ 2 ∷ 4 ∷ 6 ∷ 9 ∷ []) (counted 8)
+    ∷ unpacksPixelStream rgbA 1 2 (0x00 ∷ 8 ∷ 9 ∷ 1 ∷ 2 ∷ 3 ∷ 4 ∷ 5 ∷ 6 ∷ 0 ∷ []) (1 ∷ 3 ∷ 5 ∷ 8 ∷ 2 ∷ 4 ∷ 6 ∷ 9 ∷ []) (counted 8)
+    ∷ []
+
 abbrev pub examples : List Example
-examples = layouts ++ rlePictures ++ refusals ++ subsampledPictures ++ streams
+examples = layouts ++ rlePictures ++ refusals ++ subsampledPictures ++ streams ++ tall
