@@ -3,18 +3,20 @@
 use Prim.Native.Nat.{ℕ}
 use mathlib.Core.Bool.{Bool, true, false}
 use mathlib.Core.List.{List, [], _∷_}
+use lib.ListN.{length}
 use lib.IntN.{ℤ, pos, negsuc}
 use Rattle.rle_format.specs.Answer.{Answer, counted, refused, Outcome}
 use Rattle.pixel_format.specs.declared.PixelLayout.the-variants.{BgrA, RgbA, ARgb, ABgr}
 use Rattle.bitmap_format.specs.declared.BitmapStreamHeader.{BitmapStreamHeader}
 use Rattle.bitmap_format.specs.declared.ColorPlaneDefinition.the-variants.{Argb, AYCoCg}
 use Rattle.bitmap_format.specs.Examples as pictures
+use Rattle.bitmap_format.specs.Picture.{PictureOutcome}
 use Rattle.bitmap_format.specs.Stream.{StreamOutcome}
 use Rattle.rdp6.specs.declared.CLayout.{CLayout}
 use Rattle.rdp6.specs.declared.CLayout.the-variants.{Known, Unknown}
 use Rattle.rdp6.specs.Number.{cNumber}
 use Rattle.rdp6.specs.Header.{cHeader}
-use Rattle.rdp6.specs.Layout.{cLayout, unknownLayout, cPackPixels, cPackPixelsStream}
+use Rattle.rdp6.specs.Layout.{cLayout, unknownLayout, cPackPixels, cPackPixelsStream, cUnpackPixels, cUnpackPixelStream}
 
 pub data Example : Type 0 where
   -- the arguments of a C function, and the header record
@@ -28,6 +30,9 @@ pub data Example : Type 0 where
   -- the number of a layout, and pixels that are packed into a body, or into a stream
   packs : (number : ℕ) (alpha rle : Bool) (width height room : ℕ) (pixels : List ℕ) → Outcome → Example
   packsStream : (number : ℕ) (alpha rle : Bool) (width height : ℕ) (pixels dst : List ℕ) → StreamOutcome → Example
+  -- the number of a layout, and a body or a stream that is unpacked to pixels: work area and image after the call, and the answer
+  unpacks : (number : ℕ) → BitmapStreamHeader → (width height : ℕ) (body work image : List ℕ) → Answer → Example
+  unpacksStream : (number width height : ℕ) (stream work image : List ℕ) → Answer → Example
 
 -- what a number or a call means
 pub data Meaning : Type 0 where
@@ -37,6 +42,7 @@ pub data Meaning : Type 0 where
   answer : Answer → Meaning
   body : Outcome → Meaning
   stream : StreamOutcome → Meaning
+  picture : PictureOutcome → Meaning
 
 -- what the definitions compute
 abbrev pub computed : Example → Meaning
@@ -46,6 +52,10 @@ computed (means n l) = layout (cLayout n)
 computed (refuses width height a) = answer (unknownLayout width height)
 computed (packs n alpha rle width height room pixels o) = body (cPackPixels alpha rle width height room pixels (cLayout n))
 computed (packsStream n alpha rle width height pixels dst o) = stream (cPackPixelsStream alpha rle width height pixels dst (cLayout n))
+computed (unpacks n h width height b work image a) =
+    picture (cUnpackPixels (cLayout n) h width height b (pictures.unwritten (length work)) (pictures.unwritten (length image)))
+computed (unpacksStream n width height s work image a) =
+    picture (cUnpackPixelStream (cLayout n) width height s (pictures.unwritten (length work)) (pictures.unwritten (length image)))
 
 -- what is expected
 abbrev pub expected : Example → Meaning
@@ -55,6 +65,8 @@ expected (means n l) = layout l
 expected (refuses width height a) = answer a
 expected (packs n alpha rle width height room pixels o) = body o
 expected (packsStream n alpha rle width height pixels dst o) = stream o
+expected (unpacks n h width height b work image a) = picture (record { work = work; image = image; answer = a })
+expected (unpacksStream n width height s work image a) = picture (record { work = work; image = image; answer = a })
 
 abbrev pub outcome : (written : List ℕ) → Answer → Outcome
 outcome written a = record { written = written; answer = a }
@@ -69,7 +81,8 @@ pixels = 1 ∷ 2 ∷ 3 ∷ 4 ∷ 5 ∷ 6 ∷ 7 ∷ 8 ∷ []
 -- header records: ARGB, whatever level and subsampling are; AYCoCg with the least and the greatest level; a level over 7 and an unknown
 -- definition, both taken for level 0. Returned numbers, the last −7. Layouts, and numbers that mean none: 256 and 4,294,967,295 are among them.
 -- The sides before an unknown layout. Two pixels packed raw as RGBA without alpha, as ARGB with it, and one as RLE; a stream of ABGR, with room for a
--- byte more. An unknown layout comes before pixels that are missing, and changes nothing
+-- byte more. An unknown layout comes before pixels that are missing, and changes nothing. The same two pixels unpacked as ABGR, from a body and
+-- from a stream; one pixel from RLE, whose alpha is behind the colours in the work area. An unknown layout comes behind the stream's own refusals 13 and 14
 abbrev pub examples : List Example
 examples =
     takes true false 0 5 true (pictures.header true false Argb)
@@ -98,4 +111,12 @@ examples =
     ∷ packsStream 3 false false 2 1 pixels (9 ∷ 9 ∷ 9 ∷ 9 ∷ 9 ∷ 9 ∷ 9 ∷ 9 ∷ 9 ∷ []) (streamOutcome (32 ∷ 4 ∷ 8 ∷ 3 ∷ 7 ∷ 2 ∷ 6 ∷ 0 ∷ 9 ∷ []) (counted 8))
     ∷ packsStream 0 true true 1 1 pixels (9 ∷ 9 ∷ 9 ∷ 9 ∷ 9 ∷ 9 ∷ 9 ∷ 9 ∷ 9 ∷ []) (streamOutcome (48 ∷ 16 ∷ 4 ∷ 16 ∷ 3 ∷ 16 ∷ 2 ∷ 16 ∷ 1 ∷ []) (counted 9))
     ∷ packsStream 256 true false 2 1 [] (9 ∷ 9 ∷ []) (streamOutcome (9 ∷ 9 ∷ []) (refused 3))
+    ∷ unpacks 3 (pictures.header false true Argb) 2 1 (1 ∷ 5 ∷ 2 ∷ 6 ∷ 3 ∷ 7 ∷ 4 ∷ 8 ∷ []) [] (1 ∷ 4 ∷ 3 ∷ 2 ∷ 5 ∷ 8 ∷ 7 ∷ 6 ∷ []) (counted 8)
+    ∷ unpacks 0 (pictures.header true true Argb) 1 1 (16 ∷ 4 ∷ 16 ∷ 3 ∷ 16 ∷ 2 ∷ 16 ∷ 1 ∷ []) (3 ∷ 2 ∷ 1 ∷ 4 ∷ []) (1 ∷ 2 ∷ 3 ∷ 4 ∷ []) (counted 4)
+    ∷ unpacks 4 (pictures.header true true Argb) 2 1 [] (pictures.unwritten 2) (pictures.unwritten 3) (refused 3)
+    ∷ unpacks 4 (pictures.header true true Argb) 0 8193 [] (pictures.unwritten 2) (pictures.unwritten 3) (refused 1)
+    ∷ unpacksStream 3 2 1 (0 ∷ 1 ∷ 5 ∷ 2 ∷ 6 ∷ 3 ∷ 7 ∷ 4 ∷ 8 ∷ 0 ∷ []) [] (1 ∷ 4 ∷ 3 ∷ 2 ∷ 5 ∷ 8 ∷ 7 ∷ 6 ∷ []) (counted 8)
+    ∷ unpacksStream 4 2 1 (0 ∷ 0 ∷ []) (pictures.unwritten 2) (pictures.unwritten 3) (refused 3)
+    ∷ unpacksStream 4 0 1 [] (pictures.unwritten 2) (pictures.unwritten 3) (refused 13)
+    ∷ unpacksStream 4 0 1 (0 ∷ []) (pictures.unwritten 2) (pictures.unwritten 3) (refused 14)
     ∷ []

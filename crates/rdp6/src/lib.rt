@@ -233,16 +233,16 @@ pub extern "C" fn rdp6_work_size(
     ensures { λ r. ⌜ r ≡ checkSides (λ (_ : ℕ). 0) width height (workSize threeBytes (cHeader rle false definition 0 subsampling) width height) ⌝ }
 {
     let header = header_of(rle, false, definition, 0, subsampling);
-    let format = PixelFormat::Rgb24;
-    bitmap_format::work_size(format, header, width, height)
+    let rgb24 = PixelFormat::Rgb24;
+    bitmap_format::work_size(rgb24, header, width, height)
 }
 
 #[no_mangle]
 pub extern "C" fn rdp6_image_size(width: usize, height: usize) -> usize
     ensures { λ r. ⌜ r ≡ checkSides (λ (_ : ℕ). 0) width height (imageSize threeBytes width height) ⌝ }
 {
-    let format = PixelFormat::Rgb24;
-    bitmap_format::image_size(format, width, height)
+    let rgb24 = PixelFormat::Rgb24;
+    bitmap_format::image_size(rgb24, width, height)
 }
 
 #[no_mangle]
@@ -267,8 +267,8 @@ pub extern "C" fn rdp6_decode_pixels(
     let CLayout::Known(pixels) = known else {
         return layout_refusal(width, height);
     };
-    let header = header_of(rle, alpha, definition, level, subsampling);
-    decoded_number(decode_pixels(pixels, header, body, work, image, width, height))
+    let picture_header = header_of(rle, alpha, definition, level, subsampling);
+    decoded_number(decode_pixels(pixels, picture_header, body, work, image, width, height))
 }
 
 // The sizes are the same in every layout.
@@ -284,16 +284,16 @@ pub extern "C" fn rdp6_pixels_work_size(
     ensures { λ r. ⌜ r ≡ checkSides (λ (_ : ℕ). 0) width height (workSize (fourBytes bgrA) (cHeader rle alpha definition 0 subsampling) width height) ⌝ }
 {
     let header = header_of(rle, alpha, definition, 0, subsampling);
-    let format = PixelFormat::FourBytes(PixelLayout::BgrA);
-    bitmap_format::work_size(format, header, width, height)
+    let pixels = PixelFormat::FourBytes(PixelLayout::BgrA);
+    bitmap_format::work_size(pixels, header, width, height)
 }
 
 #[no_mangle]
 pub extern "C" fn rdp6_pixels_image_size(width: usize, height: usize) -> usize
     ensures { λ r. ⌜ r ≡ checkSides (λ (_ : ℕ). 0) width height (imageSize (fourBytes bgrA) width height) ⌝ }
 {
-    let format = PixelFormat::FourBytes(PixelLayout::BgrA);
-    bitmap_format::image_size(format, width, height)
+    let pixels = PixelFormat::FourBytes(PixelLayout::BgrA);
+    bitmap_format::image_size(pixels, width, height)
 }
 
 #[no_mangle]
@@ -390,8 +390,8 @@ pub extern "C" fn rdp6_stream_decode(
 pub extern "C" fn rdp6_stream_work_size(stream: &[u8], width: usize, height: usize) -> usize
     ensures { λ r. ⌜ r ≡ checkSides (λ (_ : ℕ). 0) width height (streamWorkSize threeBytes width height (now (stream .entry))) ⌝ }
 {
-    let format = PixelFormat::Rgb24;
-    stream_work_size(format, stream, width, height)
+    let rgb24 = PixelFormat::Rgb24;
+    stream_work_size(rgb24, stream, width, height)
 }
 
 // The answer of unpacking a stream to an unknown layout: refusal 13 or 14 of the stream, or else that of the layout.
@@ -429,8 +429,8 @@ pub extern "C" fn rdp6_stream_decode_pixels(
 pub extern "C" fn rdp6_stream_pixels_work_size(stream: &[u8], width: usize, height: usize) -> usize
     ensures { λ r. ⌜ r ≡ checkSides (λ (_ : ℕ). 0) width height (streamWorkSize (fourBytes bgrA) width height (now (stream .entry))) ⌝ }
 {
-    let format = PixelFormat::FourBytes(PixelLayout::BgrA);
-    stream_work_size(format, stream, width, height)
+    let pixels = PixelFormat::FourBytes(PixelLayout::BgrA);
+    stream_work_size(pixels, stream, width, height)
 }
 
 #[no_mangle]
