@@ -168,12 +168,21 @@ streams =
     ∷ streamSize (FourBytes BgrA) 3 3 [] 0
     ∷ []
 
--- One wide and two high, raw, with alpha: the colours 1 3 5 and 2 4 6, alpha 8 and 9
-abbrev pub tall : List Example
-tall =
-    unpacksPixels rgbA (argb false true) 1 2 (8 ∷ 9 ∷ 1 ∷ 2 ∷ 3 ∷ 4 ∷ 5 ∷ 6 ∷ []) (1 ∷ 3 ∷ 5 ∷ 8 ∷ 2 ∷ 4 ∷ 6 ∷ 9 ∷ []) (counted 8)
-    ∷ unpacksPixelStream rgbA 1 2 (0x00 ∷ 8 ∷ 9 ∷ 1 ∷ 2 ∷ 3 ∷ 4 ∷ 5 ∷ 6 ∷ 0 ∷ []) (1 ∷ 3 ∷ 5 ∷ 8 ∷ 2 ∷ 4 ∷ 6 ∷ 9 ∷ []) (counted 8)
+-- Two wide and three high, raw, subsampled, without alpha: Y 100 to 105, Co 1 and 2, Cg 10 and 20, as in Examples.antt
+abbrev pub twoByThreePlanes : List ℕ
+twoByThreePlanes = 100 ∷ 101 ∷ 102 ∷ 103 ∷ 104 ∷ 105 ∷ 1 ∷ 2 ∷ 10 ∷ 20 ∷ []
+
+abbrev pub twoByThreePixels : List ℕ
+twoByThreePixels =
+    89 ∷ 110 ∷ 91 ∷ 255 ∷ 90 ∷ 111 ∷ 92 ∷ 255
+    ∷ 91 ∷ 112 ∷ 93 ∷ 255 ∷ 92 ∷ 113 ∷ 94 ∷ 255
+    ∷ 82 ∷ 124 ∷ 86 ∷ 255 ∷ 83 ∷ 125 ∷ 87 ∷ 255 ∷ []
+
+abbrev pub twoByThree : List Example
+twoByThree =
+    unpacksPixels rgbA (subsampledHeader false false) 2 3 twoByThreePlanes twoByThreePixels (counted 24)
+    ∷ unpacksPixelStream rgbA 2 3 (0x29 ∷ twoByThreePlanes ++ (0 ∷ [])) twoByThreePixels (counted 24)
     ∷ []
 
 abbrev pub examples : List Example
-examples = layouts ++ rlePictures ++ refusals ++ subsampledPictures ++ streams ++ tall
+examples = layouts ++ rlePictures ++ refusals ++ subsampledPictures ++ streams ++ twoByThree
