@@ -1,2 +1,3 @@
 mod Entry
+mod Examples
 mod FirstByte
