@@ -2,7 +2,7 @@
 use Prim.Native.Nat.{ℕ, zero, suc, _+_, _*_, _<_, _≤_}
 use mathlib.Core.Bool.{Bool, true, false}
 use mathlib.Core.Path.{_≡_, refl, sym, ap, _∙_}
-use mathlib.Core.List.{List}
+use mathlib.Core.List.{List, []}
 use native.Mathlib.Omega.{arith}
 use lib.ListN.{length, getD, replicate, getD-replicate, length-replicate}
 use Rattle.rle_format.specs.Slice.{writeAt}
@@ -12,6 +12,7 @@ use Rattle.pixel_format.specs.declared.PixelFormat.the-variants.{Rgb24, FourByt
 use Rattle.pixel_format.specs.declared.PixelLayout.{PixelLayout}
 use Rattle.bitmap_format.specs.declared.ColorPlaneDefinition.{ColorPlaneDefinition}
 use Rattle.bitmap_format.specs.Pixels.{PixelForm, threeBytes, fourBytes, formatToForm, pixelBytes, alphaAt, shownAlphaSize}
+use Rattle.bitmap_format.specs.Sizes.{rowSize, imageSize}
 use Rattle.bitmap_format.specs.Image.{colourAt, concatUpTo, imageRow, writeRows}
 use Rattle.bitmap_rows.specs.Rows.{shownAlpha}
 use Rattle.bitmap_rows.proofs.Rows.{concatUpTo-same}
@@ -41,10 +42,14 @@ alpha-opaque flagged alpha n width row column e l =
 
 -- ---- the rows
 
+-- three-byte pixels show no alpha
+pub three-byte-row-is : (d : ColorPlaneDefinition) (flagged : Bool) (width height : ℕ) (planes : List ℕ) (row : ℕ) → rowWith threeBytes d flagged width height planes [] 0 row ≡ imageRow threeBytes d flagged width height planes [] row
+unfolding imageRow
+three-byte-row-is d flagged width height planes row = refl
+
 module _ (d : ColorPlaneDefinition) (flagged : Bool) (size width height : ℕ) (planes alpha image : List ℕ) where
-  -- three-byte pixels show no alpha
   pub three-byte-rows : (format : PixelFormat) → format ≡ Rgb24
-      → writeRows size (rowWith (formatToForm format) d flagged width height planes alpha 0) height image ≡ writeRows size (imageRow (formatToForm format) d flagged width height planes alpha) height image
+      → writeRows (rowSize threeBytes width) (imageRow threeBytes d flagged width height planes []) height image ≡ writeRows (rowSize (formatToForm format) width) (imageRow (formatToForm format) d flagged width height planes alpha) height image
   unfolding imageRow
   three-byte-rows Rgb24 e = refl
   three-byte-rows (FourBytes layout) e = let z : _≡_ {A = ℕ} 0 1 = cc in absurd (omega arith)
@@ -71,9 +76,9 @@ module _ (d : ColorPlaneDefinition) (flagged : Bool) (size width height : ℕ) (
 
 -- ---- their room
 
-pub no-rows-fit : (format : PixelFormat) (width height len : ℕ) → format ≡ Rgb24 → AlphaRowsFit (formatToForm format) width height 0 len
-no-rows-fit Rgb24 width height len e row lr = omega arith
-no-rows-fit (FourBytes layout) width height len e row lr = let z : _≡_ {A = ℕ} 0 1 = cc in absurd (omega arith)
+pub three-byte-image : (format : PixelFormat) (width height len : ℕ) → format ≡ Rgb24 → imageSize (formatToForm format) width height ≤ len → imageSize threeBytes width height ≤ len
+three-byte-image Rgb24 width height len e l = l
+three-byte-image (FourBytes layout) width height len e l = let z : _≡_ {A = ℕ} 0 1 = cc in absurd (omega arith)
 
 pub plane-rows-fit : (format : PixelFormat) (layout : PixelLayout) (flagged : Bool) (width height len : ℕ) → format ≡ FourBytes layout → flagged ≡ true
     → shownAlphaSize (formatToForm format) flagged width height ≤ len → AlphaRowsFit (formatToForm format) width height width len

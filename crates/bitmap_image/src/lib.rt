@@ -21,6 +21,7 @@ use bitmap_format::is_loss_level_invalid;
 use bitmap_format::shown_alpha_size;
 use pixel_format::PixelFormat;
 use rle_format::MAX_SIDE;
+use rows::write_rgb24_rows;
 use rows::write_rows;
 
 // Pictures up to this width have short arrays. To fill long ones takes about as long as to write a picture of 20 × 20 pixels.
@@ -160,17 +161,7 @@ pub fn write_planes(
     let definition = header.color_plane_definition;
     let flagged = header.use_alpha;
     let PixelFormat::FourBytes(_) = format else {
-        write_with_alpha(
-            format,
-            definition,
-            flagged,
-            planes,
-            alpha,
-            0,
-            image,
-            width,
-            height,
-        );
+        write_rgb24_rows(definition, flagged, planes, image, width, height);
         return;
     };
     if flagged {

@@ -6,7 +6,7 @@ use lib.ListN.{length}
 use borrow.Author.Tests.{not-true, not-false}
 use Rattle.bitmap_format.specs.Pixels.{formatToForm}
 use Rattle.bitmap_format.specs.Sizes.{rowSize}
-use Rattle.bitmap_image.proofs.AlphaRows.{three-byte-rows, flagged-rows, opaque-rows, no-rows-fit, plane-rows-fit, one-row-fits}
+use Rattle.bitmap_image.proofs.AlphaRows.{three-byte-rows, flagged-rows, opaque-rows, three-byte-image, plane-rows-fit, one-row-fits}
 use Rattle.bitmap_image.proofs.PlanesFit.{planes-known, not-written, written}
 use borrow.Author.Needs.{needs}
 use Rattle.bitmap_image.proofs.write_planes.Statement.{statement}
@@ -26,11 +26,11 @@ enum-told c = search needs
 enum-told-2 : tie.Need-enum-told-2
 enum-told-2 c = search needs
 
-write-with-alpha-requires : tie.Need-write-with-alpha-requires
-write-with-alpha-requires c κs =
+write-rgb24-rows-requires : tie.Need-write-rgb24-rows-requires
+write-rgb24-rows-requires c κs =
     let a = c .before .before .before .before .before .before .before .before .args in
     let k = planes-known (formatToForm (a .format)) (a .header) (a .width) (a .height) (length (a .planes .now)) (length (a .alpha .now)) (length (a .image .now)) (sym (c .before .before .before .before .has-planes .ensures) ∙ not-false _ (c .before .before .before .if1 .left)) in
-    (k .loss, k .sides .wide, k .sides .high, k .planes-room, omega arith, no-rows-fit (a .format) (a .width) (a .height) _ (c .before .enum-told2 .given .1), k .image-room)
+    (k .loss, k .sides .wide, k .sides .high, k .planes-room, three-byte-image (a .format) (a .width) (a .height) _ (c .before .enum-told2 .given .1) (k .image-room))
 
 same-length : tie.Need-same-length
 same-length c = search needs
@@ -38,12 +38,12 @@ same-length c = search needs
 returns-2 : tie.Need-returns-2
 returns-2 c =
     let a = c .before .before .before .before .before .before .before .before .before .before .before .args in
-    c .before .before .write-with-alpha .ensures
-    ∙ three-byte-rows (a .header .«color_plane_definition») (a .header .«use_alpha») (rowSize (formatToForm (a .format)) (a .width)) (a .width) (a .height) (a .planes .now) (a .alpha .now) (a .image .now) (a .format) (c .before .before .before .before .enum-told2 .given .1)
+    c .before .before .write-rgb24-rows .ensures
+    ∙ three-byte-rows (a .header .«color_plane_definition») (a .header .«use_alpha») 0 (a .width) (a .height) (a .planes .now) (a .alpha .now) (a .image .now) (a .format) (c .before .before .before .before .enum-told2 .given .1)
     ∙ sym (written (formatToForm (a .format)) (a .header) (a .width) (a .height) (a .planes .now) (a .alpha .now) (a .image .now) (sym (c .before .before .before .before .before .before .before .has-planes .ensures) ∙ not-false _ (c .before .before .before .before .before .before .if1 .left)))
 
-write-with-alpha-requires-2 : tie.Need-write-with-alpha-requires-2
-write-with-alpha-requires-2 c κs =
+write-with-alpha-requires : tie.Need-write-with-alpha-requires
+write-with-alpha-requires c κs =
     let a = c .before .before .before .before .before .before .before .before .before .args in
     let k = planes-known (formatToForm (a .format)) (a .header) (a .width) (a .height) (length (a .planes .now)) (length (a .alpha .now)) (length (a .image .now)) (sym (c .before .before .before .before .before .has-planes .ensures) ∙ not-false _ (c .before .before .before .before .if1 .left)) in
     (k .loss, k .sides .wide, k .sides .high, k .planes-room, k .sides .wide, plane-rows-fit (a .format) (c .before .before .enum-told .given .0 .0) (a .header .«use_alpha») (a .width) (a .height) _ (c .before .before .enum-told .given .1) (c .before .if2 .taken) (k .alpha-room), k .image-room)
@@ -54,7 +54,7 @@ same-length-2 c = search needs
 returns-3 : tie.Need-returns-3
 returns-3 c =
     let a = c .before .before .before .before .before .before .before .before .before .before .before .before .args in
-    c .before .before .write-with-alpha2 .ensures
+    c .before .before .write-with-alpha .ensures
     ∙ flagged-rows (a .header .«color_plane_definition») (a .header .«use_alpha») (rowSize (formatToForm (a .format)) (a .width)) (a .width) (a .height) (a .planes .now) (a .alpha .now) (a .image .now) (formatToForm (a .format)) (c .before .before .before .before .if2 .taken)
     ∙ sym (written (formatToForm (a .format)) (a .header) (a .width) (a .height) (a .planes .now) (a .alpha .now) (a .image .now) (sym (c .before .before .before .before .before .before .before .before .has-planes .ensures) ∙ not-false _ (c .before .before .before .before .before .before .before .if1 .left)))
 
@@ -67,8 +67,8 @@ part-write-with-alpha-start c = search needs
 part-write-with-alpha-end : tie.Need-part-write-with-alpha-end
 part-write-with-alpha-end c = search needs
 
-write-with-alpha-requires-3 : tie.Need-write-with-alpha-requires-3
-write-with-alpha-requires-3 c κs =
+write-with-alpha-requires-2 : tie.Need-write-with-alpha-requires-2
+write-with-alpha-requires-2 c κs =
     let a = c .before .before .before .before .before .before .before .before .before .before .before .before .args in
     let k = planes-known (formatToForm (a .format)) (a .header) (a .width) (a .height) (length (a .planes .now)) (length (a .alpha .now)) (length (a .image .now)) (sym (c .before .before .before .before .before .before .before .before .has-planes .ensures) ∙ not-false _ (c .before .before .before .before .before .before .before .if1 .left)) in
     (k .loss, k .sides .wide, k .sides .high, k .planes-room, omega arith, one-row-fits (formatToForm (a .format)) (a .width) (a .height) 256 255 (c .before .before .before .if3 .taken), k .image-room)
@@ -79,7 +79,7 @@ same-length-3 c = search needs
 returns-4 : tie.Need-returns-4
 returns-4 c =
     let a = c .before .before .before .before .before .before .before .before .before .before .before .before .before .before .before .args in
-    c .before .before .write-with-alpha3 .ensures
+    c .before .before .write-with-alpha2 .ensures
     ∙ opaque-rows (a .header .«color_plane_definition») (a .header .«use_alpha») (rowSize (formatToForm (a .format)) (a .width)) (a .width) (a .height) (a .planes .now) (a .alpha .now) (a .image .now) (formatToForm (a .format)) 256 (c .before .before .before .before .before .before .before .if2 .left) (c .before .before .before .before .before .before .if3 .taken)
     ∙ sym (written (formatToForm (a .format)) (a .header) (a .width) (a .height) (a .planes .now) (a .alpha .now) (a .image .now) (sym (c .before .before .before .before .before .before .before .before .before .before .before .has-planes .ensures) ∙ not-false _ (c .before .before .before .before .before .before .before .before .before .before .if1 .left)))
 
@@ -92,8 +92,8 @@ part-write-with-alpha-start-2 c = search needs
 part-write-with-alpha-end-2 : tie.Need-part-write-with-alpha-end-2
 part-write-with-alpha-end-2 c = search needs
 
-write-with-alpha-requires-4 : tie.Need-write-with-alpha-requires-4
-write-with-alpha-requires-4 c κs =
+write-with-alpha-requires-3 : tie.Need-write-with-alpha-requires-3
+write-with-alpha-requires-3 c κs =
     let a = c .before .before .before .before .before .before .before .before .before .before .before .before .args in
     let k = planes-known (formatToForm (a .format)) (a .header) (a .width) (a .height) (length (a .planes .now)) (length (a .alpha .now)) (length (a .image .now)) (sym (c .before .before .before .before .before .before .before .before .has-planes .ensures) ∙ not-false _ (c .before .before .before .before .before .before .before .if1 .left)) in
     (k .loss, k .sides .wide, k .sides .high, k .planes-room, omega arith, one-row-fits (formatToForm (a .format)) (a .width) (a .height) 8192 255 (k .sides .wide), k .image-room)
@@ -105,7 +105,7 @@ returns-5 : tie.Need-returns-5
 returns-5 c =
     let a = c .before .before .before .before .before .before .before .before .before .before .before .before .before .before .before .args in
     let k = planes-known (formatToForm (a .format)) (a .header) (a .width) (a .height) (length (a .planes .now)) (length (a .alpha .now)) (length (a .image .now)) (sym (c .before .before .before .before .before .before .before .before .before .before .before .has-planes .ensures) ∙ not-false _ (c .before .before .before .before .before .before .before .before .before .before .if1 .left)) in
-    c .before .before .write-with-alpha4 .ensures
+    c .before .before .write-with-alpha3 .ensures
     ∙ opaque-rows (a .header .«color_plane_definition») (a .header .«use_alpha») (rowSize (formatToForm (a .format)) (a .width)) (a .width) (a .height) (a .planes .now) (a .alpha .now) (a .image .now) (formatToForm (a .format)) 8192 (c .before .before .before .before .before .before .before .if2 .left) (k .sides .wide)
     ∙ sym (written (formatToForm (a .format)) (a .header) (a .width) (a .height) (a .planes .now) (a .alpha .now) (a .image .now) (sym (c .before .before .before .before .before .before .before .before .before .before .before .has-planes .ensures) ∙ not-false _ (c .before .before .before .before .before .before .before .before .before .before .if1 .left)))
 
@@ -117,21 +117,21 @@ write-planes-spec =
     returns
     enum-told
     enum-told-2
-    write-with-alpha-requires
+    write-rgb24-rows-requires
     same-length
     returns-2
-    write-with-alpha-requires-2
+    write-with-alpha-requires
     same-length-2
     returns-3
     sub-write-with-alpha
     part-write-with-alpha-start
     part-write-with-alpha-end
-    write-with-alpha-requires-3
+    write-with-alpha-requires-2
     same-length-3
     returns-4
     sub-write-with-alpha-2
     part-write-with-alpha-start-2
     part-write-with-alpha-end-2
-    write-with-alpha-requires-4
+    write-with-alpha-requires-3
     same-length-4
     returns-5)

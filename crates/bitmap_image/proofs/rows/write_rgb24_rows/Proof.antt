@@ -1,0 +1,216 @@
+-- `write_rgb24_rows`: an iteration of its loop is a row; the invariant is `ImageInvariant` of ImageLoop.antt, and `Rooms` and `PartRoom` bound the
+-- indices. Assumes nothing.
+use Prim.Native.Nat.{ℕ, _+_, _-_, _*_, _≤_}
+use mathlib.Core.Bool.{Bool}
+use mathlib.Core.Path.{_≡_, refl, ap, _∙_}
+use mathlib.Core.List.{[]}
+use native.Mathlib.Omega.{arith}
+use lib.ListN.{length}
+use Rattle.rle_format.proofs.Slice.{suffix, suffix-room}
+use Rattle.rle_format.proofs.Plane.{area-max}
+use Rattle.bitmap_format.specs.Planes.{subsampled, chromaSide}
+use Rattle.bitmap_format.specs.Pixels.{threeBytes}
+use Rattle.bitmap_format.specs.Image.{chromaIndex, imageRow, writeRows}
+use Rattle.bitmap_rows.proofs.Rows.{row-written}
+use Rattle.bitmap_image.proofs.ImageLoop.{Areas, areas, Rooms, rooms, PartRoom, image-room, row-is, ImageInvariant, image-start, image-step, image-end, row-size-is}
+use Rattle.bitmap_image.proofs.AlphaRows.{three-byte-row-is}
+use borrow.Author.Needs.{needs}
+use Rattle.bitmap_image.proofs.rows.write_rgb24_rows.Statement.{statement}
+use Rattle.bitmap_image.proofs.rows.write_rgb24_rows.Tie as tie
+
+abbrev Inv-loop : tie.InvT-loop
+Inv-loop definition flagged planes image₀ width height subsampling second chroma-width third size row₀ image row =
+    (row ≤ height) × ImageInvariant image₀ image row size (imageRow threeBytes definition flagged width height planes [])
+
+abbrev μ-loop : tie.MeasureT-loop
+μ-loop definition flagged planes image₀ width height subsampling second chroma-width third size row₀ image row = height - row
+
+-- the sides of a chroma plane
+cw-is : (c : tie.After-chroma-side2 Inv-loop μ-loop) → c .before .chroma-side .result ≡ chromaSide (subsampled (c .before .before .before .before .before .args .definition)) (c .before .before .before .before .before .args .width)
+cw-is c = c .before .chroma-side .ensures ∙ ap (λ (t : Bool). chromaSide t (c .before .before .before .before .before .args .width)) (c .before .before .has-subsampled-chroma .ensures)
+
+ch-is : (c : tie.After-chroma-side2 Inv-loop μ-loop) → c .chroma-side2 .result ≡ chromaSide (subsampled (c .before .before .before .before .before .args .definition)) (c .before .before .before .before .before .args .height)
+ch-is c = c .chroma-side2 .ensures ∙ ap (λ (t : Bool). chromaSide t (c .before .before .before .before .before .args .height)) (c .before .before .has-subsampled-chroma .ensures)
+
+-- the sizes of the planes, of a row of them and of a row of the image
+sizes : (c : tie.After-chroma-side2 Inv-loop μ-loop) → Areas (c .before .before .before .before .before .args .width) (c .before .before .before .before .before .args .height) (c .before .chroma-side .result) (c .chroma-side2 .result) (length (c .before .before .before .before .before .args .planes .now))
+sizes c =
+    let s = c .before .before .before .before .before in
+    areas (subsampled (s .args .definition)) (s .args .width) (s .args .height) _ _ _ (s .pre .1) (s .pre .2) (cw-is c) (ch-is c) (s .pre .3)
+
+chroma-is : (c : tie.After-chroma-index Inv-loop μ-loop) → c .chroma-index .result ≡ chromaIndex (subsampled (c .before .before .before .before .before .before .before .before .args .definition)) (c .before .before .loop .row)
+chroma-is c = c .chroma-index .ensures ∙ ap (λ (t : Bool). chromaIndex t (c .before .before .loop .row)) (c .before .before .before .before .before .has-subsampled-chroma .ensures)
+
+room : (c : tie.After-chroma-index Inv-loop μ-loop)
+    → Rooms (c .before .before .before .before .before .before .before .before .args .width) (c .before .before .before .before .before .before .before .before .args .height) (c .before .before .loop .row) (c .before .before .before .before .chroma-side .result) (c .before .before .before .chroma-side2 .result) (c .chroma-index .result) (length (c .before .before .before .before .before .before .before .before .args .planes .now))
+room c =
+    let s = c .before .before .before .before .before .before .before .before in
+    rooms (subsampled (s .args .definition)) (s .args .width) (s .args .height) _ _ _ (s .pre .1) (s .pre .2) (cw-is (c .before .before .before)) (ch-is (c .before .before .before)) (s .pre .3) (c .before .before .loop .row) _ (c .before .loop-test .taken) (chroma-is c)
+
+fits : (c : tie.After-chroma-index Inv-loop μ-loop) → PartRoom (c .before .before .loop .row * (3 * c .before .before .before .before .before .before .before .before .args .width)) (3 * c .before .before .before .before .before .before .before .before .args .width) (length (c .before .before .loop .image))
+fits c =
+    let s = c .before .before .before .before .before .before .before .before in
+    let l = c .before .before .loop in
+    let whole = image-room threeBytes (l .row) (s .args .width) (s .args .height) (length (s .args .image .now)) (3 * s .args .width) (c .before .loop-test .taken) (s .pre .1) (s .pre .2) refl (s .pre .4) in
+    record { fits = omega (arith, whole .fits, l .inv .1 .len); small = whole .small }
+
+has-subsampled-chroma-requires : tie.Need-has-subsampled-chroma-requires Inv-loop μ-loop
+has-subsampled-chroma-requires c κs = search needs
+
+mul-second : tie.Need-mul-second Inv-loop μ-loop
+mul-second c = let s = c .before .before .before in omega (arith, area-max (s .args .width) (s .args .height) (s .pre .1) (s .pre .2))
+
+chroma-side-requires : tie.Need-chroma-side-requires Inv-loop μ-loop
+chroma-side-requires c κs = search needs
+
+chroma-side-requires-2 : tie.Need-chroma-side-requires-2 Inv-loop μ-loop
+chroma-side-requires-2 c κs = search needs
+
+mul-third : tie.Need-mul-third Inv-loop μ-loop
+mul-third c = omega (arith, sizes c)
+
+add-third : tie.Need-add-third Inv-loop μ-loop
+add-third c = omega (arith, sizes c)
+
+mul-size : tie.Need-mul-size Inv-loop μ-loop
+mul-size c = let s = c .before .before .before .before .before in omega (arith, s .pre .1)
+
+loop-holds : tie.Need-loop-holds Inv-loop μ-loop
+loop-holds c = (omega arith, image-start _ _ _)
+
+chroma-index-requires : tie.Need-chroma-index-requires Inv-loop μ-loop
+chroma-index-requires c κs = search needs
+
+mul-chroma : tie.Need-mul-chroma Inv-loop μ-loop
+mul-chroma c = omega (arith, room c)
+
+mul-write-rgb24-row : tie.Need-mul-write-rgb24-row Inv-loop μ-loop
+mul-write-rgb24-row c = omega (arith, room c)
+
+sub-write-rgb24-row : tie.Need-sub-write-rgb24-row Inv-loop μ-loop
+sub-write-rgb24-row c = omega (arith, room c)
+
+part-write-rgb24-row-start : tie.Need-part-write-rgb24-row-start Inv-loop μ-loop
+part-write-rgb24-row-start c = omega (arith, room c)
+
+part-write-rgb24-row-end : tie.Need-part-write-rgb24-row-end Inv-loop μ-loop
+part-write-rgb24-row-end c = omega (arith, room c)
+
+add-write-rgb24-row : tie.Need-add-write-rgb24-row Inv-loop μ-loop
+add-write-rgb24-row c = omega (arith, room (c .before))
+
+sub-write-rgb24-row-2 : tie.Need-sub-write-rgb24-row-2 Inv-loop μ-loop
+sub-write-rgb24-row-2 c = omega (arith, room (c .before))
+
+part-write-rgb24-row-start-2 : tie.Need-part-write-rgb24-row-start-2 Inv-loop μ-loop
+part-write-rgb24-row-start-2 c = omega (arith, room (c .before))
+
+part-write-rgb24-row-end-2 : tie.Need-part-write-rgb24-row-end-2 Inv-loop μ-loop
+part-write-rgb24-row-end-2 c = omega (arith, room (c .before))
+
+add-write-rgb24-row-2 : tie.Need-add-write-rgb24-row-2 Inv-loop μ-loop
+add-write-rgb24-row-2 c = omega (arith, room (c .before .before))
+
+sub-write-rgb24-row-3 : tie.Need-sub-write-rgb24-row-3 Inv-loop μ-loop
+sub-write-rgb24-row-3 c = omega (arith, room (c .before .before))
+
+part-write-rgb24-row-start-3 : tie.Need-part-write-rgb24-row-start-3 Inv-loop μ-loop
+part-write-rgb24-row-start-3 c = omega (arith, room (c .before .before))
+
+part-write-rgb24-row-end-3 : tie.Need-part-write-rgb24-row-end-3 Inv-loop μ-loop
+part-write-rgb24-row-end-3 c = omega (arith, room (c .before .before))
+
+mul-write-rgb24-row-2 : tie.Need-mul-write-rgb24-row-2 Inv-loop μ-loop
+mul-write-rgb24-row-2 c = omega (arith, fits (c .before .before .before))
+
+sub-write-rgb24-row-4 : tie.Need-sub-write-rgb24-row-4 Inv-loop μ-loop
+sub-write-rgb24-row-4 c = omega (arith, fits (c .before .before .before))
+
+part-write-rgb24-row-start-4 : tie.Need-part-write-rgb24-row-start-4 Inv-loop μ-loop
+part-write-rgb24-row-start-4 c = omega (arith, fits (c .before .before .before))
+
+part-write-rgb24-row-end-4 : tie.Need-part-write-rgb24-row-end-4 Inv-loop μ-loop
+part-write-rgb24-row-end-4 c = omega (arith, fits (c .before .before .before))
+
+write-rgb24-row-requires : tie.Need-write-rgb24-row-requires Inv-loop μ-loop
+write-rgb24-row-requires c κs = search needs
+
+add-row : tie.Need-add-row Inv-loop μ-loop
+add-row c = omega arith
+
+loop-less : tie.Need-loop-less Inv-loop μ-loop
+loop-less c = omega arith
+
+loop-again : tie.Need-loop-again Inv-loop μ-loop
+loop-again c =
+    let i = c .before .before .before .before .before .before .before in
+    let s = i .before .before .before .before .before .before .before .before in
+    let a = s .args in
+    let l = i .before .before .loop in
+    let w = c .before .before .write-rgb24-row in
+    let cw = i .before .before .before .before .chroma-side .result in
+    let ch = i .before .before .before .chroma-side2 .result in
+    let chroma = i .chroma-index .result * cw in
+    let second = a .width * a .height in
+    let third = second + cw * ch in
+    let columns = cw-is (i .before .before .before) in
+    let r = room i in
+    let written = row-written threeBytes (a .definition) (a .flagged) (suffix (a .planes .now) (l .row * a .width)) (suffix (a .planes .now) (second + chroma)) (suffix (a .planes .now) (third + chroma)) [] (a .width) (suffix (l .image) (l .row * (3 * a .width))) (s .pre .0)
+    (suffix-room (a .planes .now) (l .row * a .width) (a .width) (omega (arith, r)))
+    (rw (← columns) (suffix-room (a .planes .now) (second + chroma) cw (omega (arith, r))))
+    (rw (← columns) (suffix-room (a .planes .now) (third + chroma) cw (omega (arith, r))))
+    (omega arith) (suffix-room (l .image) (l .row * (3 * a .width)) (3 * a .width) (fits i .fits)) in (
+      omega arith,
+      image-step _ (l .image) _ _ (l .row) (3 * a .width) _ (l .inv .1) (w .ensures ∙ written)
+          (row-is threeBytes (a .definition) (a .flagged) (a .planes .now) [] (a .width) (a .height) (l .row) 0 cw ch (i .chroma-index .result) columns (ch-is (i .before .before .before)) (chroma-is i)
+          ∙ three-byte-row-is (a .definition) (a .flagged) (a .width) (a .height) (a .planes .now) (l .row)) (w .kept .1 .1 .1 .1 .1 .0),
+    )
+
+same-length : tie.Need-same-length Inv-loop μ-loop
+same-length c = omega arith
+
+returns : tie.Need-returns Inv-loop μ-loop
+returns c =
+    let a = c .before .before .before .before .before .before .before .args in
+    let l = c .before .loop in
+    image-end _ _ _ _ _ _ (l .inv .1) (omega arith)
+    ∙ ap (λ (k : ℕ). writeRows k (imageRow threeBytes (a .definition) (a .flagged) (a .width) (a .height) (a .planes .now) []) (a .height) (a .image .now)) (row-size-is threeBytes (a .width) _ refl)
+
+pub write-rgb24-rows-spec : {M : Type 1} → statement M
+write-rgb24-rows-spec =
+    tie.close
+    (tie.spec
+    Inv-loop
+    μ-loop
+    has-subsampled-chroma-requires
+    mul-second
+    chroma-side-requires
+    chroma-side-requires-2
+    mul-third
+    add-third
+    mul-size
+    loop-holds
+    chroma-index-requires
+    mul-chroma
+    mul-write-rgb24-row
+    sub-write-rgb24-row
+    part-write-rgb24-row-start
+    part-write-rgb24-row-end
+    add-write-rgb24-row
+    sub-write-rgb24-row-2
+    part-write-rgb24-row-start-2
+    part-write-rgb24-row-end-2
+    add-write-rgb24-row-2
+    sub-write-rgb24-row-3
+    part-write-rgb24-row-start-3
+    part-write-rgb24-row-end-3
+    mul-write-rgb24-row-2
+    sub-write-rgb24-row-4
+    part-write-rgb24-row-start-4
+    part-write-rgb24-row-end-4
+    write-rgb24-row-requires
+    add-row
+    loop-less
+    loop-again
+    same-length
+    returns)
