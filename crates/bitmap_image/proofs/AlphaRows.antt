@@ -10,11 +10,11 @@ use Rattle.rle_format.proofs.Slice.{suffix, suffix-drop, suffix-room}
 use Rattle.pixel_format.specs.declared.PixelFormat.{PixelFormat}
 use Rattle.pixel_format.specs.declared.PixelFormat.the-variants.{Rgb24, FourBytes}
 use Rattle.pixel_format.specs.declared.PixelLayout.{PixelLayout}
+use Rattle.pixel_format.specs.Channel.{channelOffsets}
 use Rattle.bitmap_format.specs.declared.ColorPlaneDefinition.{ColorPlaneDefinition}
 use Rattle.bitmap_format.specs.Pixels.{PixelForm, threeBytes, fourBytes, formatToForm, pixelBytes, alphaAt, shownAlphaSize}
 use Rattle.bitmap_format.specs.Sizes.{rowSize, imageSize}
 use Rattle.bitmap_format.specs.Image.{colourAt, concatUpTo, imageRow, writeRows}
-use Rattle.bitmap_rows.specs.Rows.{shownAlpha}
 use Rattle.bitmap_rows.proofs.Rows.{concatUpTo-same}
 use Rattle.bitmap_image.specs.Rows.{rowWith, AlphaRowsFit}
 use Rattle.bitmap_image.proofs.ImageLoop.{row-within}
@@ -54,6 +54,10 @@ module _ (d : ColorPlaneDefinition) (flagged : Bool) (size width height : ℕ) (
   three-byte-rows Rgb24 e = refl
   three-byte-rows (FourBytes layout) e = let z : _≡_ {A = ℕ} 0 1 = cc in absurd (omega arith)
 
+  pub four-byte-rows : (format : PixelFormat) (layout : PixelLayout) → format ≡ FourBytes layout
+      → writeRows (rowSize (fourBytes (channelOffsets layout)) width) (imageRow (fourBytes (channelOffsets layout)) d flagged width height planes alpha) height image ≡ writeRows (rowSize (formatToForm format) width) (imageRow (formatToForm format) d flagged width height planes alpha) height image
+  four-byte-rows format layout e = ap (λ (f : PixelFormat). writeRows (rowSize (formatToForm f) width) (imageRow (formatToForm f) d flagged width height planes alpha) height image) (sym e)
+
   -- the rows of the alpha plane
   pub flagged-rows : (form : PixelForm) → flagged ≡ true
       → writeRows size (rowWith form d flagged width height planes alpha width) height image ≡ writeRows size (imageRow form d flagged width height planes alpha) height image
@@ -76,21 +80,16 @@ module _ (d : ColorPlaneDefinition) (flagged : Bool) (size width height : ℕ) (
 
 -- ---- their room
 
-pub three-byte-image : (format : PixelFormat) (width height len : ℕ) → format ≡ Rgb24 → imageSize (formatToForm format) width height ≤ len → imageSize threeBytes width height ≤ len
-three-byte-image Rgb24 width height len e l = l
-three-byte-image (FourBytes layout) width height len e l = let z : _≡_ {A = ℕ} 0 1 = cc in absurd (omega arith)
+pub image-of : (format other : PixelFormat) (width height len : ℕ) → format ≡ other → imageSize (formatToForm format) width height ≤ len → imageSize (formatToForm other) width height ≤ len
+image-of format other width height len e l = rw e at l
 
-pub plane-rows-fit : (format : PixelFormat) (layout : PixelLayout) (flagged : Bool) (width height len : ℕ) → format ≡ FourBytes layout → flagged ≡ true
-    → shownAlphaSize (formatToForm format) flagged width height ≤ len → AlphaRowsFit (formatToForm format) width height width len
-plane-rows-fit Rgb24 layout flagged width height len e t l row lr = let z : _≡_ {A = ℕ} 0 1 = cc in absurd (omega arith)
-plane-rows-fit (FourBytes other) layout flagged width height len e t l row lr =
+pub plane-rows-fit : (flagged : Bool) (format : PixelFormat) (layout : PixelLayout) (width height len : ℕ) → format ≡ FourBytes layout → flagged ≡ true
+    → shownAlphaSize (formatToForm format) flagged width height ≤ len → AlphaRowsFit width height width len
+plane-rows-fit flagged Rgb24 layout width height len e t l row lr = let z : _≡_ {A = ℕ} 0 1 = cc in absurd (omega arith)
+plane-rows-fit flagged (FourBytes other) layout width height len e t l row lr =
     let whole : width * height ≤ len = rw t at l in
     omega (arith, row-within row width height lr)
 
-shown-most : (form : PixelForm) (width : ℕ) → shownAlpha form width ≤ width
-shown-most threeBytes width = omega arith
-shown-most (fourBytes p) width = omega arith
-
 -- one row of n bytes, for all rows
-pub one-row-fits : (form : PixelForm) (width height n v : ℕ) → width ≤ n → AlphaRowsFit form width height 0 (length (suffix (replicate n v) 0))
-one-row-fits form width height n v l row lr = let room = array-room n v (shownAlpha form width) (omega (arith, shown-most form width)) in omega arith
+pub one-row-fits : (width height n v : ℕ) → width ≤ n → AlphaRowsFit width height 0 (length (suffix (replicate n v) 0))
+one-row-fits width height n v l row lr = let room = array-room n v width l in omega arith

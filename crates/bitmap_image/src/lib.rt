@@ -1,16 +1,18 @@
 // The image of a picture, from its planes (FORMAT 6): pixels of three or of four bytes.
+mod rgb24;
 mod rows;
 
 ghost use mathlib.Core.Path.{_≡_};
 ghost use mathlib.Core.Bool.{false};
 ghost use Prim.Native.Nat.{_≤_};
 ghost use lib.ListN.{length};
+ghost use Rattle.pixel_format.specs.Channel.{channelOffsets};
 ghost use Rattle.bitmap_format.specs.Planes.{subsampled, colourPlanes};
-ghost use Rattle.bitmap_format.specs.Pixels.{formatToForm};
+ghost use Rattle.bitmap_format.specs.Pixels.{fourBytes, formatToForm};
 ghost use Rattle.bitmap_format.specs.Sizes.{sampleCount, sumOver, rowSize, imageSize};
 ghost use Rattle.bitmap_format.specs.Image.{writeRows};
 ghost use Rattle.bitmap_format.specs.Picture.{isLossLevelInvalid};
-ghost use Rattle.bitmap_image.specs.Rows.{AlphaRowsFit, isDoubled, rowWith};
+ghost use Rattle.bitmap_image.specs.Rows.{AlphaRowsFit, rowWith};
 ghost use Rattle.bitmap_image.specs.WritePlanes.{planesFit, writePlanes};
 use bitmap_format::BitmapStreamHeader;
 use bitmap_format::ColorPlaneDefinition;
@@ -20,26 +22,17 @@ use bitmap_format::image_size;
 use bitmap_format::is_loss_level_invalid;
 use bitmap_format::shown_alpha_size;
 use pixel_format::PixelFormat;
+use pixel_format::PixelLayout;
+use rgb24::write_rgb24_rows;
 use rle_format::MAX_SIDE;
-use rows::write_rgb24_rows;
-use rows::write_rows;
+use rows::write_pixel_rows;
 
 // Pictures up to this width have short arrays. To fill long ones takes about as long as to write a picture of 20 × 20 pixels.
 const NARROW_WIDTH: usize = 256;
 
-// Whether each chroma sample of a row is first written twice, to an array: that of a subsampled picture, for four-byte pixels.
-fn is_doubled(format: PixelFormat, definition: ColorPlaneDefinition) -> bool
-    ensures { λ r. ⌜ r ≡ isDoubled (formatToForm format) definition ⌝ }
-{
-    let PixelFormat::FourBytes(_) = format else {
-        return false;
-    };
-    has_subsampled_chroma(definition)
-}
-
-// Writes the image of a picture whose rows of alpha are `step` apart, with arrays for two chroma rows if these are needed.
+// Writes an image of four-byte pixels whose rows of alpha are `step` apart. Only a subsampled picture needs the arrays for two chroma rows.
 fn write_with_alpha(
-    format: PixelFormat,
+    layout: PixelLayout,
     definition: ColorPlaneDefinition,
     flagged: bool,
     planes: &[u8],
@@ -49,14 +42,14 @@ fn write_with_alpha(
     width: usize,
     height: usize,
 )
-    requires { ⌜ (isLossLevelInvalid definition ≡ false) × (width ≤ 8192) × (height ≤ 8192) × (sumOver sampleCount (colourPlanes (subsampled definition) width height) ≤ length (now planes)) × (step ≤ 8192) × AlphaRowsFit (formatToForm format) width height step (length (now alpha)) × (imageSize (formatToForm format) width height ≤ length (now image)) ⌝ }
-    ensures { λ _. ⌜ now (image .exit) ≡ writeRows (rowSize (formatToForm format) width) (rowWith (formatToForm format) definition flagged width height (now (planes .entry)) (now (alpha .entry)) step) height (now (image .entry)) ⌝ }
+    requires { ⌜ (isLossLevelInvalid definition ≡ false) × (width ≤ 8192) × (height ≤ 8192) × (sumOver sampleCount (colourPlanes (subsampled definition) width height) ≤ length (now planes)) × (step ≤ 8192) × AlphaRowsFit width height step (length (now alpha)) × (imageSize (fourBytes (channelOffsets layout)) width height ≤ length (now image)) ⌝ }
+    ensures { λ _. ⌜ now (image .exit) ≡ writeRows (rowSize (fourBytes (channelOffsets layout)) width) (rowWith (fourBytes (channelOffsets layout)) definition flagged width height (now (planes .entry)) (now (alpha .entry)) step) height (now (image .entry)) ⌝ }
 {
-    if !is_doubled(format, definition) {
+    if !has_subsampled_chroma(definition) {
         let mut co = [0u8; 1];
         let mut cg = [0u8; 1];
-        write_rows(
-            format,
+        write_pixel_rows(
+            layout,
             definition,
             flagged,
             planes,
@@ -73,8 +66,8 @@ fn write_with_alpha(
     if width <= NARROW_WIDTH {
         let mut co = [0u8; NARROW_WIDTH];
         let mut cg = [0u8; NARROW_WIDTH];
-        write_rows(
-            format,
+        write_pixel_rows(
+            layout,
             definition,
             flagged,
             planes,
@@ -90,8 +83,8 @@ fn write_with_alpha(
     }
     let mut co = [0u8; MAX_SIDE];
     let mut cg = [0u8; MAX_SIDE];
-    write_rows(
-        format,
+    write_pixel_rows(
+        layout,
         definition,
         flagged,
         planes,
@@ -160,13 +153,13 @@ pub fn write_planes(
     }
     let definition = header.color_plane_definition;
     let flagged = header.use_alpha;
-    let PixelFormat::FourBytes(_) = format else {
+    let PixelFormat::FourBytes(layout) = format else {
         write_rgb24_rows(definition, flagged, planes, image, width, height);
         return;
     };
     if flagged {
         write_with_alpha(
-            format,
+            layout,
             definition,
             flagged,
             planes,
@@ -181,7 +174,7 @@ pub fn write_planes(
     if width <= NARROW_WIDTH {
         let opaque = [255u8; NARROW_WIDTH];
         write_with_alpha(
-            format,
+            layout,
             definition,
             flagged,
             planes,
@@ -195,7 +188,7 @@ pub fn write_planes(
     }
     let opaque = [255u8; MAX_SIDE];
     write_with_alpha(
-        format,
+        layout,
         definition,
         flagged,
         planes,

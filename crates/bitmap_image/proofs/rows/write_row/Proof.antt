@@ -1,30 +1,9 @@
--- `write_row`: by the form of the pixels, and whether chroma is subsampled (Row.antt). Assumes nothing.
+-- `write_row`: by whether chroma is subsampled (Row.antt). Assumes nothing.
 use mathlib.Core.Path.{sym, _∙_}
-use Rattle.bitmap_format.specs.Pixels.{formatToForm}
-use Rattle.bitmap_image.proofs.Row.{RowRoom, three-byte-row, own-chroma-row, doubled-chroma-row}
+use Rattle.bitmap_image.proofs.Row.{RowRoom, own-chroma-row, doubled-chroma-row}
 use borrow.Author.Needs.{needs}
 use Rattle.bitmap_image.proofs.rows.write_row.Statement.{statement}
 use Rattle.bitmap_image.proofs.rows.write_row.Tie as tie
-
-enum-known-format : tie.Need-enum-known-format
-enum-known-format c = search needs
-
-enum-told : tie.Need-enum-told
-enum-told c = search needs
-
-write-rgb24-row-requires : tie.Need-write-rgb24-row-requires
-write-rgb24-row-requires c κs = search needs
-
-same-length : tie.Need-same-length
-same-length c = search needs
-
-returns : tie.Need-returns
-returns c =
-    let s = c .before .before .before .before .before .before .before .before .before .before .before .before .before in
-    let a = s .args in
-    let room : RowRoom (formatToForm (a .format)) (a .definition) (a .first .now) (a .second .now) (a .third .now) (a .alpha .now) (a .width) (a .dst .now) (a .co .now) (a .cg .now) =
-    record { valid = s .pre .0; first-room = s .pre .1; second-room = s .pre .2; third-room = s .pre .3; alpha-room = s .pre .4; dst-room = s .pre .5; co-room = s .pre .6; cg-room = s .pre .7 } in
-    three-byte-row (a .format) (a .definition) (a .flagged) (a .first .now) (a .second .now) (a .third .now) (a .alpha .now) (a .width) (a .dst .now) (a .co .now) (a .cg .now) (c .before .before .write-rgb24-row .last .1 .1 .1 .1 .1 .0) room (c .before .before .before .before .enum-told .given .1) (c .before .before .write-rgb24-row .ensures)
 
 has-subsampled-chroma-requires : tie.Need-has-subsampled-chroma-requires
 has-subsampled-chroma-requires c κs = search needs
@@ -56,50 +35,45 @@ part-write-pixel-row-end-2 c = search needs
 write-pixel-row-requires : tie.Need-write-pixel-row-requires
 write-pixel-row-requires c κs = search needs
 
+same-length : tie.Need-same-length
+same-length c = search needs
+
 same-length-2 : tie.Need-same-length-2
 same-length-2 c = search needs
 
 same-length-3 : tie.Need-same-length-3
 same-length-3 c = search needs
 
+returns : tie.Need-returns
+returns c =
+    let s = c .before .before .before .before .before .before .before .before .before .before .before .before .before .before .before .before .before .before .before .before .before .before .before .before .before in
+    let a = s .args in
+    let room : RowRoom (a .definition) (a .first .now) (a .second .now) (a .third .now) (a .alpha .now) (a .width) (a .dst .now) (a .co .now) (a .cg .now) =
+    record { valid = s .pre .0; first-room = s .pre .1; second-room = s .pre .2; third-room = s .pre .3; alpha-room = s .pre .4; dst-room = s .pre .5; co-room = s .pre .6; cg-room = s .pre .7 } in
+    let o = c .before .before .before .before .before .before .before .before .before .before .before .before .before .before .double-samples in
+    let g = c .before .before .before .before .before .before .before .before .before .before .double-samples2 in
+    let w = c .before .before .write-pixel-row in
+    doubled-chroma-row (a .layout) (a .definition) (a .flagged) (a .first .now) (a .second .now) (a .third .now) (a .alpha .now) (a .width) (a .dst .now) (a .co .now) (a .cg .now) (w .last .1 .1 .1 .1 .1 .1 .1 .0) room _ _ (sym (c .before .before .before .before .before .before .before .before .before .before .before .before .before .before .before .before .before .has-subsampled-chroma .ensures) ∙ c .before .before .before .before .before .before .before .before .before .before .before .before .before .before .before .before .if1 .taken) (o .ensures) (g .ensures) (o .kept .1 .0) (g .kept .1 .0) (w .ensures)
+
+write-pixel-row-requires-2 : tie.Need-write-pixel-row-requires-2
+write-pixel-row-requires-2 c κs = search needs
+
 same-length-4 : tie.Need-same-length-4
 same-length-4 c = search needs
 
 returns-2 : tie.Need-returns-2
 returns-2 c =
-    let s = c .before .before .before .before .before .before .before .before .before .before .before .before .before .before .before .before .before .before .before .before .before .before .before .before .before .before .before .before in
+    let s = c .before .before .before .before .before .before .before .before .before .before .before .before .before in
     let a = s .args in
-    let room : RowRoom (formatToForm (a .format)) (a .definition) (a .first .now) (a .second .now) (a .third .now) (a .alpha .now) (a .width) (a .dst .now) (a .co .now) (a .cg .now) =
-    record { valid = s .pre .0; first-room = s .pre .1; second-room = s .pre .2; third-room = s .pre .3; alpha-room = s .pre .4; dst-room = s .pre .5; co-room = s .pre .6; cg-room = s .pre .7 } in
-    let o = c .before .before .before .before .before .before .before .before .before .before .before .before .before .before .double-samples in
-    let g = c .before .before .before .before .before .before .before .before .before .before .double-samples2 in
-    let w = c .before .before .write-pixel-row in
-    doubled-chroma-row (a .format) (a .definition) (a .flagged) (a .first .now) (a .second .now) (a .third .now) (a .alpha .now) (a .width) (a .dst .now) (a .co .now) (a .cg .now) (w .last .1 .1 .1 .1 .1 .1 .1 .0) room (c .before .before .before .before .before .before .before .before .before .before .before .before .before .before .before .before .before .before .before .format .given .0 .0) (c .before .before .before .before .before .before .before .before .before .before .before .before .before .before .before .before .before .before .before .format .given .1) _ _ (sym (c .before .before .before .before .before .before .before .before .before .before .before .before .before .before .before .before .before .has-subsampled-chroma .ensures) ∙ c .before .before .before .before .before .before .before .before .before .before .before .before .before .before .before .before .if1 .taken) (o .ensures) (g .ensures) (o .kept .1 .0) (g .kept .1 .0) (w .ensures)
-
-write-pixel-row-requires-2 : tie.Need-write-pixel-row-requires-2
-write-pixel-row-requires-2 c κs = search needs
-
-same-length-5 : tie.Need-same-length-5
-same-length-5 c = search needs
-
-returns-3 : tie.Need-returns-3
-returns-3 c =
-    let s = c .before .before .before .before .before .before .before .before .before .before .before .before .before .before .before .before in
-    let a = s .args in
-    let room : RowRoom (formatToForm (a .format)) (a .definition) (a .first .now) (a .second .now) (a .third .now) (a .alpha .now) (a .width) (a .dst .now) (a .co .now) (a .cg .now) =
+    let room : RowRoom (a .definition) (a .first .now) (a .second .now) (a .third .now) (a .alpha .now) (a .width) (a .dst .now) (a .co .now) (a .cg .now) =
     record { valid = s .pre .0; first-room = s .pre .1; second-room = s .pre .2; third-room = s .pre .3; alpha-room = s .pre .4; dst-room = s .pre .5; co-room = s .pre .6; cg-room = s .pre .7 } in
     let w = c .before .before .write-pixel-row2 in
-    own-chroma-row (a .format) (a .definition) (a .flagged) (a .first .now) (a .second .now) (a .third .now) (a .alpha .now) (a .width) (a .dst .now) (a .co .now) (a .cg .now) (w .last .1 .1 .1 .1 .1 .1 .1 .0) room (c .before .before .before .before .before .before .before .format .given .0 .0) (c .before .before .before .before .before .before .before .format .given .1) (sym (c .before .before .before .before .before .has-subsampled-chroma .ensures) ∙ c .before .before .before .before .if1 .left) (w .ensures)
+    own-chroma-row (a .layout) (a .definition) (a .flagged) (a .first .now) (a .second .now) (a .third .now) (a .alpha .now) (a .width) (a .dst .now) (a .co .now) (a .cg .now) (w .last .1 .1 .1 .1 .1 .1 .1 .0) room (sym (c .before .before .before .before .before .has-subsampled-chroma .ensures) ∙ c .before .before .before .before .if1 .left) (w .ensures)
 
 pub write-row-spec : {M : Type 1} → statement M
 write-row-spec =
     tie.close
     (tie.spec
-    enum-known-format
-    enum-told
-    write-rgb24-row-requires
-    same-length
-    returns
     has-subsampled-chroma-requires
     double-samples-requires
     double-samples-requires-2
@@ -110,10 +84,10 @@ write-row-spec =
     part-write-pixel-row-start-2
     part-write-pixel-row-end-2
     write-pixel-row-requires
+    same-length
     same-length-2
     same-length-3
-    same-length-4
-    returns-2
+    returns
     write-pixel-row-requires-2
-    same-length-5
-    returns-3)
+    same-length-4
+    returns-2)

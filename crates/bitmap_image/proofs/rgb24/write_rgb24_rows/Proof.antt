@@ -15,8 +15,8 @@ use Rattle.bitmap_rows.proofs.Rows.{row-written}
 use Rattle.bitmap_image.proofs.ImageLoop.{Areas, areas, Rooms, rooms, PartRoom, image-room, row-is, ImageInvariant, image-start, image-step, image-end, row-size-is}
 use Rattle.bitmap_image.proofs.AlphaRows.{three-byte-row-is}
 use borrow.Author.Needs.{needs}
-use Rattle.bitmap_image.proofs.rows.write_rgb24_rows.Statement.{statement}
-use Rattle.bitmap_image.proofs.rows.write_rgb24_rows.Tie as tie
+use Rattle.bitmap_image.proofs.rgb24.write_rgb24_rows.Statement.{statement}
+use Rattle.bitmap_image.proofs.rgb24.write_rgb24_rows.Tie as tie
 
 abbrev Inv-loop : tie.InvT-loop
 Inv-loop definition flagged planes image₀ width height subsampling second chroma-width third size row₀ image row =

@@ -1,0 +1,50 @@
+// The rows of an image of three-byte pixels, from the rows of the planes.
+ghost use mathlib.Core.Path.{_≡_};
+ghost use mathlib.Core.Bool.{false};
+ghost use mathlib.Core.List.{[]};
+ghost use Prim.Native.Nat.{_≤_};
+ghost use lib.ListN.{length};
+ghost use Rattle.bitmap_format.specs.Planes.{subsampled, colourPlanes};
+ghost use Rattle.bitmap_format.specs.Pixels.{threeBytes};
+ghost use Rattle.bitmap_format.specs.Sizes.{sampleCount, sumOver, rowSize, imageSize};
+ghost use Rattle.bitmap_format.specs.Image.{imageRow, writeRows};
+ghost use Rattle.bitmap_format.specs.Picture.{isLossLevelInvalid};
+use crate::rows::chroma_index;
+use bitmap_format::ColorPlaneDefinition;
+use bitmap_format::chroma_side;
+use bitmap_format::has_subsampled_chroma;
+use bitmap_rows::write_rgb24_row;
+
+// Writes the rows of an image of three-byte pixels. They have a loop of their own: in one loop with the four-byte pixels each row takes about 5 ns
+// more, a third of the time of a picture of 20 × 20 pixels.
+pub(crate) fn write_rgb24_rows(
+    definition: ColorPlaneDefinition,
+    flagged: bool,
+    planes: &[u8],
+    image: &mut [u8],
+    width: usize,
+    height: usize,
+)
+    requires { ⌜ (isLossLevelInvalid definition ≡ false) × (width ≤ 8192) × (height ≤ 8192) × (sumOver sampleCount (colourPlanes (subsampled definition) width height) ≤ length (now planes)) × (imageSize threeBytes width height ≤ length (now image)) ⌝ }
+    ensures { λ _. ⌜ now (image .exit) ≡ writeRows (rowSize threeBytes width) (imageRow threeBytes definition flagged width height (now (planes .entry)) []) height (now (image .entry)) ⌝ }
+{
+    let subsampling = has_subsampled_chroma(definition);
+    let second = width * height;
+    let chroma_width = chroma_side(subsampling, width);
+    let third = second + chroma_width * chroma_side(subsampling, height);
+    let size = 3 * width;
+    let mut row = 0;
+    while row < height {
+        let chroma = chroma_index(subsampling, row) * chroma_width;
+        write_rgb24_row(
+            definition,
+            flagged,
+            &planes[row * width..],
+            &planes[second + chroma..],
+            &planes[third + chroma..],
+            &mut image[row * size..],
+            width,
+        );
+        row = row + 1;
+    }
+}
