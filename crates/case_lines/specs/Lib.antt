@@ -1,3 +1,4 @@
 pub mod Counts
+pub mod Layouts
 pub mod Results
 pub mod Examples

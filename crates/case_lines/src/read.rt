@@ -9,6 +9,7 @@ ghost use lib.Dec.{ltb};
 ghost use Prim.Native.Nat.{_≤_, _<_};
 ghost use lib.ListN.{length, replicate};
 ghost use Rattle.case_lines.specs.Counts.{countOf, expandedCount, nextOfNumber, nextOfAnswer, nextOfBytes};
+ghost use Rattle.case_lines.specs.Layouts.{layoutOf};
 
 // The largest `count` of `next_numbers`.
 pub const MAX_NUMBERS: usize = 9;
@@ -136,7 +137,9 @@ pub fn next_answer(line: &[u8], start: usize) -> ParsedAnswer
 }
 
 // The layout (FORMAT 7.1) that a line has as a number.
-pub fn layout_of(number: usize) -> ParsedLayout {
+pub fn layout_of(number: usize) -> ParsedLayout
+    ensures { λ r. ⌜ r ≡ layoutOf number ⌝ }
+{
     match number {
         0 => ParsedLayout::Value(PixelLayout::BgrA),
         1 => ParsedLayout::Value(PixelLayout::RgbA),
