@@ -29,6 +29,8 @@ enum Step {
         to: usize,
         always: bool,
     },
+    /// To one of the addresses in the function's table, as a `match` of four cases does.
+    Table(Vec<usize>),
     /// To another function, which then returns in this one's place.
     Leave {
         to: String,
@@ -52,11 +54,11 @@ fn stop(why: &str) -> ! {
     exit(1)
 }
 
-/// The text of the library's machine code.
-fn disassembly() -> String {
+/// What `objdump` prints of the library.
+fn objdump(arguments: &[&str]) -> String {
     let library =
         std::env::var_os("RDP6_LIBRARY").unwrap_or_else(|| stop("call differential/bench, which finds the library"));
-    let asked = Command::new("objdump").args(["-d", "-r", "--no-show-raw-insn"]).arg(library).output();
+    let asked = Command::new("objdump").args(arguments).arg(library).output();
     let output = asked.unwrap_or_else(|why| stop(&format!("objdump of Debian's package binutils does not run, {why}")));
     if !output.status.success() {
         stop(String::from_utf8_lossy(&output.stderr).trim());
@@ -68,19 +70,40 @@ fn hexadecimal(text: &str) -> Option<usize> {
     usize::from_str_radix(text.trim_start_matches("0x"), 16).ok()
 }
 
+/// The addresses in the table of each function that has one. An entry is the distance from the table to the address. Its relocation counts from
+/// the entry itself, whose offset is therefore subtracted.
+fn tables() -> HashMap<String, Vec<usize>> {
+    let mut tables: HashMap<String, Vec<usize>> = HashMap::new();
+    let mut name = String::new();
+    for line in objdump(&["-r"]).lines() {
+        if let Some(section) = line.strip_prefix("RELOCATION RECORDS FOR [") {
+            name = section.trim_end_matches("]:").to_owned();
+        } else if let Some(function) = name.strip_prefix(".rodata.") {
+            let words: Vec<&str> = line.split_whitespace().collect();
+            let [offset, "R_X86_64_PC32", target] = words[..] else { continue };
+            let distance = target.strip_prefix(".text.").and_then(|target| target.strip_prefix(function)?.strip_prefix('+'));
+            let address = || Some(hexadecimal(distance?)? - hexadecimal(offset)?);
+            let address = address().unwrap_or_else(|| stop(&format!("{name} has an entry {line}")));
+            tables.entry(function.to_owned()).or_default().push(address);
+        }
+    }
+    tables
+}
+
 /// How far below the stack's end the operand `-0x..(%rsp)` of an instruction lies.
 fn below(operands: &str) -> Option<usize> {
     let (before, _) = operands.split_once("(%rsp")?;
     hexadecimal(before.rsplit([',', ' ']).next()?.strip_prefix('-')?)
 }
 
-/// What an instruction does to the stack; none of what is not foreseen here, as a jump by a pointer.
+/// What an instruction does to the stack; none of what is not foreseen here, as a call by a pointer.
 fn step(instruction: &str) -> Option<Step> {
     let (name, operands) = instruction.split_once(char::is_whitespace).unwrap_or((instruction, ""));
     let operands = operands.trim();
     let (target, function) = operands.split_once(" <").unwrap_or((operands, ""));
     let constant = || operands.strip_prefix('$').and_then(|rest| hexadecimal(rest.strip_suffix(",%rsp")?));
     let step = match name {
+        "jmp" if operands.starts_with("*%") => Step::Table(Vec::new()),
         _ if operands.contains('*') => return None,
         "push" => Step::Push,
         "pop" => Step::Pop,
@@ -110,7 +133,7 @@ impl Frames {
     pub fn of_library() -> Frames {
         let mut functions: HashMap<String, Code> = HashMap::new();
         let mut name = String::new();
-        for line in disassembly().lines() {
+        for line in objdump(&["-d", "-r", "--no-show-raw-insn"]).lines() {
             if let Some((_, function)) = line.strip_suffix(">:").and_then(|line| line.split_once('<')) {
                 name = function.to_owned();
                 continue;
@@ -121,6 +144,20 @@ impl Frames {
             } else if let Some((address, instruction)) = line.split_once(":\t") {
                 let step = || step(instruction.trim()).unwrap_or_else(|| stop(&format!("it has `{instruction}`")));
                 code.extend(hexadecimal(address.trim()).map(|address| (address, step())));
+            }
+        }
+        let tables = tables();
+        for (name, code) in &mut functions {
+            let addresses: HashSet<usize> = code.iter().map(|(address, _)| *address).collect();
+            let jumps: Vec<&mut Step> =
+                code.iter_mut().map(|(_, step)| step).filter(|step| matches!(step, Step::Table(_))).collect();
+            if 1 < jumps.len() {
+                stop(&format!("{name} has several jumps by a table"));
+            }
+            for jump in jumps {
+                let targets = tables.get(name).filter(|targets| targets.iter().all(|target| addresses.contains(target)));
+                let targets = targets.unwrap_or_else(|| stop(&format!("{name} has a jump by a table that is not understood")));
+                *jump = Step::Table(targets.clone());
             }
         }
         Frames { functions }
@@ -165,16 +202,18 @@ fn heights(code: &Code) -> HashSet<(usize, usize)> {
         if !reached.insert((at, height)) {
             continue;
         }
-        let next = match code[at].1 {
+        let next = match &code[at].1 {
             Step::Push => Some(height + RETURN),
             Step::Pop => Some(height - RETURN),
             Step::Down(bytes) => Some(height + bytes),
             Step::Up(bytes) => Some(height - bytes),
-            Step::Jump { always: true, .. } | Step::Leave { always: true, .. } | Step::Return => None,
+            Step::Jump { always: true, .. } | Step::Leave { always: true, .. } | Step::Table(_) | Step::Return => None,
             _ => Some(height),
         };
-        if let Step::Jump { to, .. } = code[at].1 {
-            left.push((places[&to], height));
+        match &code[at].1 {
+            Step::Jump { to, .. } => left.push((places[to], height)),
+            Step::Table(targets) => left.extend(targets.iter().map(|target| (places[target], height))),
+            _ => {}
         }
         left.extend(next.map(|height| (at + 1, height)));
     }
