@@ -2,7 +2,9 @@
 
 mod program {
     use original::rdp6::bitmap_stream::decoder::BitmapStreamDecoder;
-    use original::rdp6::bitmap_stream::encoder::{BgrAChannels, BitmapStreamEncoder};
+    use original::rdp6::bitmap_stream::encoder::{
+        ABgrChannels, ARgbChannels, BgrAChannels, BitmapStreamEncoder, PixelAlpha, PixelFormat, RgbAChannels,
+    };
 
     include!("../../../../bindings/rust/tests/drop_in/program.rs");
 }
