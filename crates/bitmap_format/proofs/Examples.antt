@@ -1,5 +1,5 @@
 -- The examples hold: one proof for planes and pictures that are unpacked, one for pictures that are packed, one for streams, one for
--- four-byte pixels.
+-- four-byte pixels, one for chroma samples found by counting.
 use mathlib.Core.Path.{_≡_, refl}
 use mathlib.Core.List.{map}
 use Rattle.rle_format.specs.Answer.{stop, prepend}
@@ -25,6 +25,8 @@ use Rattle.bitmap_format.specs.HeaderByte.{definitionFromByte, headerFro
 use Rattle.bitmap_format.specs.Stream.{withoutPad, splitRest, splitStream, unpackSplit, unpackStreamBy, streamWorkSize, withHeaderByte, packStream}
 use Rattle.bitmap_format.specs.StreamExamples as streams
 use Rattle.bitmap_format.specs.PixelExamples as pixels
+use Rattle.bitmap_format.specs.Counting.{nextCount, nextInRow, nextRow, nextPixel, countedPixel}
+use Rattle.bitmap_format.specs.CountingExamples as counting
 
 pub examples-hold : map computed examples ≡ map expected examples
 unfolding packPlane writeSegments packing planeSegments codesAt rowAt rowSegments scanSegments splitSegments longRun deltaCode difference unpackPlane unpackRows readRow readSegment rawCount runLength undoDelta differenceFromCode checkSides stop prepend overwrite writeAt firstRefusal signedByte chromaValue clip ycocg aycocgColour chromaSide firstPlane secondPlane thirdPlane colourPlanes alphaPlanesAt planesWithAlphaAt alphaAt sumOver minBodySize workSize rowSize imageSize sample chromaIndex colourAt concatUpTo imageRow writeRows addRead unpackPlanes isLossLevelInvalid checkPicture writeImage unpackRaw imageFromWork unpackRle unpackTo
@@ -41,3 +43,7 @@ stream-examples-hold = refl
 pub pixel-examples-hold : map pixels.computed pixels.examples ≡ map pixels.expected pixels.examples
 unfolding unpackPlane unpackRows readRow readSegment rawCount runLength undoDelta differenceFromCode checkSides stop prepend overwrite writeAt firstRefusal signedByte chromaValue clip ycocg aycocgColour chromaSide firstPlane secondPlane thirdPlane colourPlanes alphaPlanesAt planesWithAlphaAt alphaAt sumOver minBodySize workSize rowSize imageSize sample chromaIndex colourAt concatUpTo imageRow writeRows addRead unpackPlanes isLossLevelInvalid checkPicture writeImage unpackRaw imageFromWork unpackRle unpackTo definitionFromByte headerFromByte withoutPad splitRest splitStream unpackSplit unpackStreamBy streamWorkSize
 pixel-examples-hold = refl
+
+pub counting-examples-hold : map counting.computed counting.examples ≡ map counting.expected counting.examples
+unfolding chromaSide concatUpTo nextCount nextInRow nextRow nextPixel countedPixel
+counting-examples-hold = refl

@@ -12,6 +12,7 @@ pub mod Pixels
 pub mod PlanesAlike
 pub mod AlphaKept
 pub mod PixelAt
+pub mod Counting
 pub mod WrittenPicture
 pub mod PictureClaims
 pub mod PackPicture

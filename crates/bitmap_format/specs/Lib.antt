@@ -4,6 +4,7 @@ pub mod Planes
 pub mod Pixels
 pub mod Sizes
 pub mod Image
+pub mod Counting
 pub mod UnpackPlanes
 pub mod Picture
 pub mod PictureClaims
@@ -15,3 +16,4 @@ pub mod Examples
 pub mod PackExamples
 pub mod StreamExamples
 pub mod PixelExamples
+pub mod CountingExamples

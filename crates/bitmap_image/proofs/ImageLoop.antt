@@ -18,6 +18,8 @@ use Rattle.bitmap_format.specs.Planes.{PlaneAt, subsampled, chromaSide, firstPl
 use Rattle.bitmap_format.specs.Pixels.{PixelForm, bytesPerPixel, pixelBytes}
 use Rattle.bitmap_format.specs.Sizes.{sampleCount, sumOver, rowSize, imageSize}
 use Rattle.bitmap_format.specs.Image.{sample, chromaIndex, colourAt, concatUpTo, writeRows}
+use Rattle.bitmap_format.specs.Counting.{nextCount, IsChromaStart}
+use Rattle.bitmap_format.proofs.Counting.{start-is, start-next}
 use Rattle.bitmap_format.proofs.Sizes.{chromaSide-max, colour-sum-sides, bytesPerPixel-max}
 use Rattle.bitmap_format.proofs.PixelAt.{place-below}
 use Rattle.bitmap_rows.specs.Rows.{rowPixels}
@@ -32,39 +34,44 @@ suffix-sample : (planes : List ℕ) (from : ℕ) (p : PlaneAt) (row : ℕ) → f
 unfolding sample
 suffix-sample planes from p row e column = suffix-at planes from column ∙ ap (λ (k : ℕ). getD planes (k + column) 0) e
 
--- the rows of the planes for a row of the picture: cw and ch are the sides of a chroma plane, `chroma-row` the chroma row
-module _ (planes : List ℕ) (s : Bool) (width height row cw ch chroma-row : ℕ) (ew : cw ≡ chromaSide s width) (eh : ch ≡ chromaSide s height) (ep : chroma-row ≡ chromaIndex s row) where
+-- the rows of the planes for a row of the picture: cw and ch are the sides of a chroma plane, the chroma row starts at `chroma`
+module _ (planes : List ℕ) (s : Bool) (width height row cw ch chroma : ℕ) (ew : cw ≡ chromaSide s width) (eh : ch ≡ chromaSide s height) (ec : IsChromaStart s width row chroma) where
   first-is : (column : ℕ) → getD (suffix planes (row * width)) column 0 ≡ sample planes (firstPlane width height) row column
   unfolding firstPlane
   first-is = suffix-sample planes (row * width) (firstPlane width height) row (sym (zero-add (row * width)))
 
-  second-is : (column : ℕ) → getD (suffix planes (width * height + chroma-row * cw)) column 0 ≡ sample planes (secondPlane s width height) (chromaIndex s row) column
+  second-is : (column : ℕ) → getD (suffix planes (width * height + chroma)) column 0 ≡ sample planes (secondPlane s width height) (chromaIndex s row) column
   unfolding secondPlane
-  second-is = suffix-sample planes (width * height + chroma-row * cw) (secondPlane s width height) (chromaIndex s row) (λ i. width * height + ep i * ew i)
+  second-is = suffix-sample planes (width * height + chroma) (secondPlane s width height) (chromaIndex s row) (λ i. width * height + start-is s width row chroma ec i)
 
-  third-is : (column : ℕ) → getD (suffix planes (width * height + cw * ch + chroma-row * cw)) column 0 ≡ sample planes (thirdPlane s width height) (chromaIndex s row) column
+  third-is : (column : ℕ) → getD (suffix planes (width * height + cw * ch + chroma)) column 0 ≡ sample planes (thirdPlane s width height) (chromaIndex s row) column
   unfolding thirdPlane
-  third-is = suffix-sample planes (width * height + cw * ch + chroma-row * cw) (thirdPlane s width height) (chromaIndex s row) (λ i. width * height + ew i * eh i + ep i * ew i)
+  third-is = suffix-sample planes (width * height + cw * ch + chroma) (thirdPlane s width height) (chromaIndex s row) (λ i. width * height + ew i * eh i + start-is s width row chroma ec i)
 
 -- a row of pixels
-pub row-is : (form : PixelForm) (d : ColorPlaneDefinition) (flagged : Bool) (planes alpha : List ℕ) (width height row step cw ch chroma-row : ℕ) → cw ≡ chromaSide (subsampled d) width
-    → ch ≡ chromaSide (subsampled d) height → chroma-row ≡ chromaIndex (subsampled d) row
-    → rowPixels form d flagged (suffix planes (row * width)) (suffix planes (width * height + chroma-row * cw)) (suffix planes (width * height + cw * ch + chroma-row * cw)) (suffix alpha (row * step)) width
+pub row-is : (form : PixelForm) (d : ColorPlaneDefinition) (flagged : Bool) (planes alpha : List ℕ) (width height row step cw ch chroma : ℕ) → cw ≡ chromaSide (subsampled d) width
+    → ch ≡ chromaSide (subsampled d) height → IsChromaStart (subsampled d) width row chroma
+    → rowPixels form d flagged (suffix planes (row * width)) (suffix planes (width * height + chroma)) (suffix planes (width * height + cw * ch + chroma)) (suffix alpha (row * step)) width
     ≡ rowWith form d flagged width height planes alpha step row
 unfolding colourAt chromaIndex
-row-is form Argb flagged planes alpha width height row step cw ch chroma-row ew eh ep =
+row-is form Argb flagged planes alpha width height row step cw ch chroma ew eh ec =
     λ i. concatUpTo width
     (λ (column : ℕ).
     pixelBytes form
-    (rgb (first-is planes false width height row cw ch chroma-row ew eh ep column i) (second-is planes false width height row cw ch chroma-row ew eh ep column i)
-    (third-is planes false width height row cw ch chroma-row ew eh ep column i)) (suffix-at alpha (row * step) column i))
-row-is form (AYCoCg level s) flagged planes alpha width height row step cw ch chroma-row ew eh ep =
+    (rgb (first-is planes false width height row cw ch chroma ew eh ec column i) (second-is planes false width height row cw ch chroma ew eh ec column i)
+    (third-is planes false width height row cw ch chroma ew eh ec column i)) (suffix-at alpha (row * step) column i))
+row-is form (AYCoCg level s) flagged planes alpha width height row step cw ch chroma ew eh ec =
     λ i. concatUpTo width
     (λ (column : ℕ).
     pixelBytes form
-    (aycocgColour flagged level (first-is planes s width height row cw ch chroma-row ew eh ep column i)
-    (second-is planes s width height row cw ch chroma-row ew eh ep (chromaIndex s column) i)
-    (third-is planes s width height row cw ch chroma-row ew eh ep (chromaIndex s column) i)) (suffix-at alpha (row * step) column i))
+    (aycocgColour flagged level (first-is planes s width height row cw ch chroma ew eh ec column i)
+    (second-is planes s width height row cw ch chroma ew eh ec (chromaIndex s column) i)
+    (third-is planes s width height row cw ch chroma ew eh ec (chromaIndex s column) i)) (suffix-at alpha (row * step) column i))
+
+-- the chroma row of the next row: t and cw are what the code has for s and the width of a chroma plane
+pub chroma-step : (s t : Bool) (width row cw chroma next : ℕ) → t ≡ s → cw ≡ chromaSide s width → IsChromaStart s width row chroma → next ≡ nextCount t cw row chroma
+    → IsChromaStart s width (row + 1) next
+chroma-step s t width row cw chroma next et ew ec en = start-next s width row chroma ec ∙ (λ i. nextCount (sym et i) (sym ew i) row chroma) ∙ sym en
 
 -- ---- the room of a row
 
@@ -79,10 +86,10 @@ pub record Areas (width height cw ch len : ℕ) : Type 0 where
   pub chroma-most : cw * ch ≤ 67108864
   pub all : width * height + 2 * (cw * ch) ≤ len
 
--- and of a row, whose chroma row is `chroma-row`
-pub record Rooms (width height row cw ch chroma-row len : ℕ) : Type 0 where
-  pub luma : row * width + width ≤ width * height
-  pub chroma : chroma-row * cw + cw ≤ cw * ch
+-- and of a row, whose chroma row starts at `chroma`
+pub record Rooms (width height row cw ch chroma len : ℕ) : Type 0 where
+  pub luma-row : row * width + width ≤ width * height
+  pub chroma-row : chroma + cw ≤ cw * ch
   pub full-most : width * height ≤ 67108864
   pub chroma-most : cw * ch ≤ 67108864
   pub all : width * height + 2 * (cw * ch) ≤ len
@@ -96,12 +103,13 @@ module _ (s : Bool) (width height cw ch len : ℕ) (lw : width ≤ 8192) (lh : h
     all = rw (ew, eh) (rw (colour-sum-sides false s width height) at l);
   }
 
-  pub rooms : (row chroma-row : ℕ) → row < height → chroma-row ≡ chromaIndex s row → Rooms width height row cw ch chroma-row len
-  rooms row chroma-row lr ep =
-      let below : chroma-row < ch = rw (ep, eh) (place-below s row height lr) in
+  pub rooms : (row chroma : ℕ) → row < height → IsChromaStart s width row chroma → Rooms width height row cw ch chroma len
+  rooms row chroma lr ec =
+      let below : chromaIndex s row < ch = rw eh (place-below s row height lr) in
+      let start : chroma ≡ chromaIndex s row * cw = start-is s width row chroma ec ∙ ap (λ (k : ℕ). chromaIndex s row * k) (sym ew) in
       record {
-        luma = row-within row width height lr;
-        chroma = row-within chroma-row cw ch below;
+        luma-row = row-within row width height lr;
+        chroma-row = rw start (row-within (chromaIndex s row) cw ch below);
         full-most = areas .full-most;
         chroma-most = areas .chroma-most;
         all = areas .all;

@@ -1,4 +1,5 @@
 // The image of a picture, from its planes (FORMAT 6): pixels of three or of four bytes.
+mod chroma;
 mod rgb24;
 mod rows;
 

@@ -9,7 +9,7 @@ ghost use Rattle.bitmap_format.specs.Pixels.{threeBytes};
 ghost use Rattle.bitmap_format.specs.Sizes.{sampleCount, sumOver, rowSize, imageSize};
 ghost use Rattle.bitmap_format.specs.Image.{imageRow, writeRows};
 ghost use Rattle.bitmap_format.specs.Picture.{isLossLevelInvalid};
-use crate::rows::chroma_index;
+use crate::chroma::next_chroma_start;
 use bitmap_format::ColorPlaneDefinition;
 use bitmap_format::chroma_side;
 use bitmap_format::has_subsampled_chroma;
@@ -33,8 +33,8 @@ pub(crate) fn write_rgb24_rows(
     let third = second + chroma_width * chroma_side(subsampling, height);
     let size = 3 * width;
     let mut row = 0;
+    let mut chroma = 0;
     while row < height {
-        let chroma = chroma_index(subsampling, row) * chroma_width;
         write_rgb24_row(
             definition,
             flagged,
@@ -44,6 +44,7 @@ pub(crate) fn write_rgb24_rows(
             &mut image[row * size..],
             width,
         );
+        chroma = next_chroma_start(subsampling, chroma_width, row, chroma);
         row = row + 1;
     }
 }

@@ -8,10 +8,11 @@ ghost use Rattle.pixel_format.specs.Channel.{channelOffsets};
 ghost use Rattle.bitmap_format.specs.Planes.{subsampled, chromaSide, colourPlanes};
 ghost use Rattle.bitmap_format.specs.Pixels.{fourBytes};
 ghost use Rattle.bitmap_format.specs.Sizes.{sampleCount, sumOver, rowSize, imageSize};
-ghost use Rattle.bitmap_format.specs.Image.{chromaIndex, writeRows};
+ghost use Rattle.bitmap_format.specs.Image.{writeRows};
 ghost use Rattle.bitmap_format.specs.Picture.{isLossLevelInvalid};
 ghost use Rattle.bitmap_rows.specs.Rows.{rowPixels};
 ghost use Rattle.bitmap_image.specs.Rows.{AlphaRowsFit, arrayWidth, rowWith};
+use crate::chroma::next_chroma_start;
 use bitmap_format::ColorPlaneDefinition;
 use bitmap_format::chroma_side;
 use bitmap_format::has_subsampled_chroma;
@@ -65,16 +66,6 @@ fn write_row(
     );
 }
 
-// The chroma row of a row of the picture (FORMAT 6.3).
-pub(crate) fn chroma_index(subsampling: bool, row: usize) -> usize
-    ensures { λ r. ⌜ r ≡ chromaIndex subsampling row ⌝ }
-{
-    if subsampling {
-        return row / 2;
-    }
-    row
-}
-
 // Writes the rows of an image of four-byte pixels. Rows of alpha are `step` apart: with a step of 0 all rows have the same.
 pub(crate) fn write_pixel_rows(
     layout: PixelLayout,
@@ -98,8 +89,8 @@ pub(crate) fn write_pixel_rows(
     let third = second + chroma_width * chroma_side(subsampling, height);
     let size = 4 * width;
     let mut row = 0;
+    let mut chroma = 0;
     while row < height {
-        let chroma = chroma_index(subsampling, row) * chroma_width;
         write_row(
             layout,
             definition,
@@ -113,6 +104,7 @@ pub(crate) fn write_pixel_rows(
             co,
             cg,
         );
+        chroma = next_chroma_start(subsampling, chroma_width, row, chroma);
         row = row + 1;
     }
 }

@@ -10,20 +10,22 @@ use Rattle.rle_format.proofs.Slice.{suffix, suffix-room}
 use Rattle.rle_format.proofs.Plane.{area-max}
 use Rattle.bitmap_format.specs.Planes.{subsampled, chromaSide}
 use Rattle.bitmap_format.specs.Pixels.{threeBytes}
-use Rattle.bitmap_format.specs.Image.{chromaIndex, imageRow, writeRows}
+use Rattle.bitmap_format.specs.Image.{imageRow, writeRows}
+use Rattle.bitmap_format.specs.Counting.{IsChromaStart}
+use Rattle.bitmap_format.proofs.Counting.{start-first}
 use Rattle.bitmap_rows.proofs.Rows.{row-written}
-use Rattle.bitmap_image.proofs.ImageLoop.{Areas, areas, Rooms, rooms, PartRoom, image-room, row-is, ImageInvariant, image-start, image-step, image-end, row-size-is}
+use Rattle.bitmap_image.proofs.ImageLoop.{Areas, areas, Rooms, rooms, PartRoom, image-room, row-is, chroma-step, ImageInvariant, image-start, image-step, image-end, row-size-is}
 use Rattle.bitmap_image.proofs.AlphaRows.{three-byte-row-is}
 use borrow.Author.Needs.{needs}
 use Rattle.bitmap_image.proofs.rgb24.write_rgb24_rows.Statement.{statement}
 use Rattle.bitmap_image.proofs.rgb24.write_rgb24_rows.Tie as tie
 
 abbrev Inv-loop : tie.InvT-loop
-Inv-loop definition flagged planes image₀ width height subsampling second chroma-width third size row₀ image row =
-    (row ≤ height) × ImageInvariant image₀ image row size (imageRow threeBytes definition flagged width height planes [])
+Inv-loop definition flagged planes image₀ width height subsampling second chroma-width third size row₀ chroma₀ image row chroma =
+    (row ≤ height) × IsChromaStart (subsampled definition) width row chroma × ImageInvariant image₀ image row size (imageRow threeBytes definition flagged width height planes [])
 
 abbrev μ-loop : tie.MeasureT-loop
-μ-loop definition flagged planes image₀ width height subsampling second chroma-width third size row₀ image row = height - row
+μ-loop definition flagged planes image₀ width height subsampling second chroma-width third size row₀ chroma₀ image row chroma = height - row
 
 -- the sides of a chroma plane
 cw-is : (c : tie.After-chroma-side2 Inv-loop μ-loop) → c .before .chroma-side .result ≡ chromaSide (subsampled (c .before .before .before .before .before .args .definition)) (c .before .before .before .before .before .args .width)
@@ -38,21 +40,18 @@ sizes c =
     let s = c .before .before .before .before .before in
     areas (subsampled (s .args .definition)) (s .args .width) (s .args .height) _ _ _ (s .pre .1) (s .pre .2) (cw-is c) (ch-is c) (s .pre .3)
 
-chroma-is : (c : tie.After-chroma-index Inv-loop μ-loop) → c .chroma-index .result ≡ chromaIndex (subsampled (c .before .before .before .before .before .before .before .before .args .definition)) (c .before .before .loop .row)
-chroma-is c = c .chroma-index .ensures ∙ ap (λ (t : Bool). chromaIndex t (c .before .before .loop .row)) (c .before .before .before .before .before .has-subsampled-chroma .ensures)
-
-room : (c : tie.After-chroma-index Inv-loop μ-loop)
-    → Rooms (c .before .before .before .before .before .before .before .before .args .width) (c .before .before .before .before .before .before .before .before .args .height) (c .before .before .loop .row) (c .before .before .before .before .chroma-side .result) (c .before .before .before .chroma-side2 .result) (c .chroma-index .result) (length (c .before .before .before .before .before .before .before .before .args .planes .now))
+room : (c : tie.In-loop Inv-loop μ-loop)
+    → Rooms (c .before .before .before .before .before .before .before .args .width) (c .before .before .before .before .before .before .before .args .height) (c .before .loop .row) (c .before .before .before .chroma-side .result) (c .before .before .chroma-side2 .result) (c .before .loop .chroma) (length (c .before .before .before .before .before .before .before .args .planes .now))
 room c =
-    let s = c .before .before .before .before .before .before .before .before in
-    rooms (subsampled (s .args .definition)) (s .args .width) (s .args .height) _ _ _ (s .pre .1) (s .pre .2) (cw-is (c .before .before .before)) (ch-is (c .before .before .before)) (s .pre .3) (c .before .before .loop .row) _ (c .before .loop-test .taken) (chroma-is c)
+    let s = c .before .before .before .before .before .before .before in
+    rooms (subsampled (s .args .definition)) (s .args .width) (s .args .height) _ _ _ (s .pre .1) (s .pre .2) (cw-is (c .before .before)) (ch-is (c .before .before)) (s .pre .3) (c .before .loop .row) _ (c .loop-test .taken) (c .before .loop .inv .1)
 
-fits : (c : tie.After-chroma-index Inv-loop μ-loop) → PartRoom (c .before .before .loop .row * (3 * c .before .before .before .before .before .before .before .before .args .width)) (3 * c .before .before .before .before .before .before .before .before .args .width) (length (c .before .before .loop .image))
+fits : (c : tie.In-loop Inv-loop μ-loop) → PartRoom (c .before .loop .row * (3 * c .before .before .before .before .before .before .before .args .width)) (3 * c .before .before .before .before .before .before .before .args .width) (length (c .before .loop .image))
 fits c =
-    let s = c .before .before .before .before .before .before .before .before in
-    let l = c .before .before .loop in
-    let whole = image-room threeBytes (l .row) (s .args .width) (s .args .height) (length (s .args .image .now)) (3 * s .args .width) (c .before .loop-test .taken) (s .pre .1) (s .pre .2) refl (s .pre .4) in
-    record { fits = omega (arith, whole .fits, l .inv .1 .len); small = whole .small }
+    let s = c .before .before .before .before .before .before .before in
+    let l = c .before .loop in
+    let whole = image-room threeBytes (l .row) (s .args .width) (s .args .height) (length (s .args .image .now)) (3 * s .args .width) (c .loop-test .taken) (s .pre .1) (s .pre .2) refl (s .pre .4) in
+    record { fits = omega (arith, whole .fits, l .inv .2 .len); small = whole .small }
 
 has-subsampled-chroma-requires : tie.Need-has-subsampled-chroma-requires Inv-loop μ-loop
 has-subsampled-chroma-requires c κs = search needs
@@ -76,13 +75,7 @@ mul-size : tie.Need-mul-size Inv-loop μ-loop
 mul-size c = let s = c .before .before .before .before .before in omega (arith, s .pre .1)
 
 loop-holds : tie.Need-loop-holds Inv-loop μ-loop
-loop-holds c = (omega arith, image-start _ _ _)
-
-chroma-index-requires : tie.Need-chroma-index-requires Inv-loop μ-loop
-chroma-index-requires c κs = search needs
-
-mul-chroma : tie.Need-mul-chroma Inv-loop μ-loop
-mul-chroma c = omega (arith, room c)
+loop-holds c = (omega arith, start-first _ _, image-start _ _ _)
 
 mul-write-rgb24-row : tie.Need-mul-write-rgb24-row Inv-loop μ-loop
 mul-write-rgb24-row c = omega (arith, room c)
@@ -135,6 +128,9 @@ part-write-rgb24-row-end-4 c = omega (arith, fits (c .before .before .before))
 write-rgb24-row-requires : tie.Need-write-rgb24-row-requires Inv-loop μ-loop
 write-rgb24-row-requires c κs = search needs
 
+next-chroma-start-requires : tie.Need-next-chroma-start-requires Inv-loop μ-loop
+next-chroma-start-requires c κs = omega (arith, room (c .before .before .before .before .before .before .before))
+
 add-row : tie.Need-add-row Inv-loop μ-loop
 add-row c = omega arith
 
@@ -143,17 +139,17 @@ loop-less c = omega arith
 
 loop-again : tie.Need-loop-again Inv-loop μ-loop
 loop-again c =
-    let i = c .before .before .before .before .before .before .before in
-    let s = i .before .before .before .before .before .before .before .before in
+    let i = c .before .before .before .before .before .before .before .before in
+    let s = i .before .before .before .before .before .before .before in
     let a = s .args in
-    let l = i .before .before .loop in
-    let w = c .before .before .write-rgb24-row in
-    let cw = i .before .before .before .before .chroma-side .result in
-    let ch = i .before .before .before .chroma-side2 .result in
-    let chroma = i .chroma-index .result * cw in
+    let l = i .before .loop in
+    let w = c .before .before .before .write-rgb24-row in
+    let cw = i .before .before .before .chroma-side .result in
+    let ch = i .before .before .chroma-side2 .result in
+    let chroma = l .chroma in
     let second = a .width * a .height in
     let third = second + cw * ch in
-    let columns = cw-is (i .before .before .before) in
+    let columns = cw-is (i .before .before) in
     let r = room i in
     let written = row-written threeBytes (a .definition) (a .flagged) (suffix (a .planes .now) (l .row * a .width)) (suffix (a .planes .now) (second + chroma)) (suffix (a .planes .now) (third + chroma)) [] (a .width) (suffix (l .image) (l .row * (3 * a .width))) (s .pre .0)
     (suffix-room (a .planes .now) (l .row * a .width) (a .width) (omega (arith, r)))
@@ -161,8 +157,9 @@ loop-again c =
     (rw (← columns) (suffix-room (a .planes .now) (third + chroma) cw (omega (arith, r))))
     (omega arith) (suffix-room (l .image) (l .row * (3 * a .width)) (3 * a .width) (fits i .fits)) in (
       omega arith,
-      image-step _ (l .image) _ _ (l .row) (3 * a .width) _ (l .inv .1) (w .ensures ∙ written)
-          (row-is threeBytes (a .definition) (a .flagged) (a .planes .now) [] (a .width) (a .height) (l .row) 0 cw ch (i .chroma-index .result) columns (ch-is (i .before .before .before)) (chroma-is i)
+      chroma-step _ _ (a .width) (l .row) cw chroma _ (i .before .before .before .before .has-subsampled-chroma .ensures) columns (l .inv .1) (c .next-chroma-start .ensures),
+      image-step _ (l .image) _ _ (l .row) (3 * a .width) _ (l .inv .2) (w .ensures ∙ written)
+          (row-is threeBytes (a .definition) (a .flagged) (a .planes .now) [] (a .width) (a .height) (l .row) 0 cw ch chroma columns (ch-is (i .before .before)) (l .inv .1)
           ∙ three-byte-row-is (a .definition) (a .flagged) (a .width) (a .height) (a .planes .now) (l .row)) (w .kept .1 .1 .1 .1 .1 .0),
     )
 
@@ -173,7 +170,7 @@ returns : tie.Need-returns Inv-loop μ-loop
 returns c =
     let a = c .before .before .before .before .before .before .before .args in
     let l = c .before .loop in
-    image-end _ _ _ _ _ _ (l .inv .1) (omega arith)
+    image-end _ _ _ _ _ _ (l .inv .2) (omega arith)
     ∙ ap (λ (k : ℕ). writeRows k (imageRow threeBytes (a .definition) (a .flagged) (a .width) (a .height) (a .planes .now) []) (a .height) (a .image .now)) (row-size-is threeBytes (a .width) _ refl)
 
 pub write-rgb24-rows-spec : {M : Type 1} → statement M
@@ -190,8 +187,6 @@ write-rgb24-rows-spec =
     add-third
     mul-size
     loop-holds
-    chroma-index-requires
-    mul-chroma
     mul-write-rgb24-row
     sub-write-rgb24-row
     part-write-rgb24-row-start
@@ -209,6 +204,7 @@ write-rgb24-rows-spec =
     part-write-rgb24-row-start-4
     part-write-rgb24-row-end-4
     write-rgb24-row-requires
+    next-chroma-start-requires
     add-row
     loop-less
     loop-again

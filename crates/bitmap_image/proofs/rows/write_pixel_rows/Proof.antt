@@ -10,19 +10,21 @@ use Rattle.rle_format.proofs.Plane.{area-max}
 use Rattle.pixel_format.specs.Channel.{channelOffsets}
 use Rattle.bitmap_format.specs.Planes.{subsampled, chromaSide}
 use Rattle.bitmap_format.specs.Pixels.{fourBytes}
-use Rattle.bitmap_format.specs.Image.{chromaIndex, writeRows}
+use Rattle.bitmap_format.specs.Image.{writeRows}
+use Rattle.bitmap_format.specs.Counting.{IsChromaStart}
+use Rattle.bitmap_format.proofs.Counting.{start-first}
 use Rattle.bitmap_image.specs.Rows.{rowWith}
-use Rattle.bitmap_image.proofs.ImageLoop.{Areas, areas, Rooms, rooms, PartRoom, image-room, alpha-room, row-is, ImageInvariant, image-start, image-step, image-end, row-size-is}
+use Rattle.bitmap_image.proofs.ImageLoop.{Areas, areas, Rooms, rooms, PartRoom, image-room, alpha-room, row-is, chroma-step, ImageInvariant, image-start, image-step, image-end, row-size-is}
 use borrow.Author.Needs.{needs}
 use Rattle.bitmap_image.proofs.rows.write_pixel_rows.Statement.{statement}
 use Rattle.bitmap_image.proofs.rows.write_pixel_rows.Tie as tie
 
 abbrev Inv-loop : tie.InvT-loop
-Inv-loop layout definition flagged planes alpha step image₀ width height co₀ cg₀ subsampling second chroma-width third size row₀ image co cg row =
-    (row ≤ height) × (length co ≡ length co₀) × (length cg ≡ length cg₀) × ImageInvariant image₀ image row size (rowWith (fourBytes (channelOffsets layout)) definition flagged width height planes alpha step)
+Inv-loop layout definition flagged planes alpha step image₀ width height co₀ cg₀ subsampling second chroma-width third size row₀ chroma₀ image co cg row chroma =
+    (row ≤ height) × IsChromaStart (subsampled definition) width row chroma × (length co ≡ length co₀) × (length cg ≡ length cg₀) × ImageInvariant image₀ image row size (rowWith (fourBytes (channelOffsets layout)) definition flagged width height planes alpha step)
 
 abbrev μ-loop : tie.MeasureT-loop
-μ-loop layout definition flagged planes alpha step image₀ width height co₀ cg₀ subsampling second chroma-width third size row₀ image co cg row = height - row
+μ-loop layout definition flagged planes alpha step image₀ width height co₀ cg₀ subsampling second chroma-width third size row₀ chroma₀ image co cg row chroma = height - row
 
 -- the sides of a chroma plane
 cw-is : (c : tie.After-chroma-side2 Inv-loop μ-loop) → c .before .chroma-side .result ≡ chromaSide (subsampled (c .before .before .before .before .before .before .before .before .args .definition)) (c .before .before .before .before .before .before .before .before .args .width)
@@ -37,27 +39,24 @@ sizes c =
     let s = c .before .before .before .before .before .before .before .before in
     areas (subsampled (s .args .definition)) (s .args .width) (s .args .height) _ _ _ (s .pre .1) (s .pre .2) (cw-is c) (ch-is c) (s .pre .3)
 
-chroma-is : (c : tie.After-chroma-index Inv-loop μ-loop) → c .chroma-index .result ≡ chromaIndex (subsampled (c .before .before .before .before .before .before .before .before .before .before .before .args .definition)) (c .before .before .loop .row)
-chroma-is c = c .chroma-index .ensures ∙ ap (λ (t : Bool). chromaIndex t (c .before .before .loop .row)) (c .before .before .before .before .before .has-subsampled-chroma .ensures)
-
-room : (c : tie.After-chroma-index Inv-loop μ-loop)
-    → Rooms (c .before .before .before .before .before .before .before .before .before .before .before .args .width) (c .before .before .before .before .before .before .before .before .before .before .before .args .height) (c .before .before .loop .row) (c .before .before .before .before .chroma-side .result) (c .before .before .before .chroma-side2 .result) (c .chroma-index .result) (length (c .before .before .before .before .before .before .before .before .before .before .before .args .planes .now))
+room : (c : tie.In-loop Inv-loop μ-loop)
+    → Rooms (c .before .before .before .before .before .before .before .before .before .before .args .width) (c .before .before .before .before .before .before .before .before .before .before .args .height) (c .before .loop .row) (c .before .before .before .chroma-side .result) (c .before .before .chroma-side2 .result) (c .before .loop .chroma) (length (c .before .before .before .before .before .before .before .before .before .before .args .planes .now))
 room c =
-    let s = c .before .before .before .before .before .before .before .before .before .before .before in
-    rooms (subsampled (s .args .definition)) (s .args .width) (s .args .height) _ _ _ (s .pre .1) (s .pre .2) (cw-is (c .before .before .before)) (ch-is (c .before .before .before)) (s .pre .3) (c .before .before .loop .row) _ (c .before .loop-test .taken) (chroma-is c)
+    let s = c .before .before .before .before .before .before .before .before .before .before in
+    rooms (subsampled (s .args .definition)) (s .args .width) (s .args .height) _ _ _ (s .pre .1) (s .pre .2) (cw-is (c .before .before)) (ch-is (c .before .before)) (s .pre .3) (c .before .loop .row) _ (c .loop-test .taken) (c .before .loop .inv .1)
 
-shown : (c : tie.After-chroma-index Inv-loop μ-loop) → PartRoom (c .before .before .loop .row * c .before .before .before .before .before .before .before .before .before .before .before .args .step) (c .before .before .before .before .before .before .before .before .before .before .before .args .width) (length (c .before .before .before .before .before .before .before .before .before .before .before .args .alpha .now))
+shown : (c : tie.In-loop Inv-loop μ-loop) → PartRoom (c .before .loop .row * c .before .before .before .before .before .before .before .before .before .before .args .step) (c .before .before .before .before .before .before .before .before .before .before .args .width) (length (c .before .before .before .before .before .before .before .before .before .before .args .alpha .now))
 shown c =
-    let s = c .before .before .before .before .before .before .before .before .before .before .before in
-    let l = c .before .before .loop in
-    alpha-room (l .row) (s .args .step) _ (s .args .height) _ (c .before .loop-test .taken) (s .pre .2) (s .pre .4) (s .pre .5 (l .row) (c .before .loop-test .taken))
+    let s = c .before .before .before .before .before .before .before .before .before .before in
+    let l = c .before .loop in
+    alpha-room (l .row) (s .args .step) _ (s .args .height) _ (c .loop-test .taken) (s .pre .2) (s .pre .4) (s .pre .5 (l .row) (c .loop-test .taken))
 
-fits : (c : tie.After-chroma-index Inv-loop μ-loop) → PartRoom (c .before .before .loop .row * (4 * c .before .before .before .before .before .before .before .before .before .before .before .args .width)) (4 * c .before .before .before .before .before .before .before .before .before .before .before .args .width) (length (c .before .before .loop .image))
+fits : (c : tie.In-loop Inv-loop μ-loop) → PartRoom (c .before .loop .row * (4 * c .before .before .before .before .before .before .before .before .before .before .args .width)) (4 * c .before .before .before .before .before .before .before .before .before .before .args .width) (length (c .before .loop .image))
 fits c =
-    let s = c .before .before .before .before .before .before .before .before .before .before .before in
-    let l = c .before .before .loop in
-    let whole = image-room (fourBytes (channelOffsets (s .args .layout))) (l .row) (s .args .width) (s .args .height) (length (s .args .image .now)) (4 * s .args .width) (c .before .loop-test .taken) (s .pre .1) (s .pre .2) refl (s .pre .6) in
-    record { fits = omega (arith, whole .fits, l .inv .3 .len); small = whole .small }
+    let s = c .before .before .before .before .before .before .before .before .before .before in
+    let l = c .before .loop in
+    let whole = image-room (fourBytes (channelOffsets (s .args .layout))) (l .row) (s .args .width) (s .args .height) (length (s .args .image .now)) (4 * s .args .width) (c .loop-test .taken) (s .pre .1) (s .pre .2) refl (s .pre .6) in
+    record { fits = omega (arith, whole .fits, l .inv .4 .len); small = whole .small }
 
 has-subsampled-chroma-requires : tie.Need-has-subsampled-chroma-requires Inv-loop μ-loop
 has-subsampled-chroma-requires c κs = search needs
@@ -81,13 +80,7 @@ mul-size : tie.Need-mul-size Inv-loop μ-loop
 mul-size c = let s = c .before .before .before .before .before .before .before .before in omega (arith, s .pre .1)
 
 loop-holds : tie.Need-loop-holds Inv-loop μ-loop
-loop-holds c = (omega arith, refl, refl, image-start _ _ _)
-
-chroma-index-requires : tie.Need-chroma-index-requires Inv-loop μ-loop
-chroma-index-requires c κs = search needs
-
-mul-chroma : tie.Need-mul-chroma Inv-loop μ-loop
-mul-chroma c = omega (arith, room c)
+loop-holds c = (omega arith, start-first _ _, refl, refl, image-start _ _ _)
 
 mul-write-row : tie.Need-mul-write-row Inv-loop μ-loop
 mul-write-row c = omega (arith, room c)
@@ -152,23 +145,26 @@ part-write-row-end-5 c = omega (arith, fits (c .before .before .before .before))
 write-row-requires : tie.Need-write-row-requires Inv-loop μ-loop
 write-row-requires c κs =
     let i = c .before .before .before .before .before .before .before in
-    let s = i .before .before .before .before .before .before .before .before .before .before .before in
+    let s = i .before .before .before .before .before .before .before .before .before .before in
     let a = s .args in
-    let l = i .before .before .loop in
-    let cw = i .before .before .before .before .chroma-side .result in
-    let chroma = i .chroma-index .result * cw in
+    let l = i .before .loop in
+    let cw = i .before .before .before .chroma-side .result in
+    let chroma = l .chroma in
     let second = a .width * a .height in
-    let third = second + cw * i .before .before .before .chroma-side2 .result in
+    let third = second + cw * i .before .before .chroma-side2 .result in
     let size = 4 * a .width in (
       s .pre .0,
       suffix-room (a .planes .now) (l .row * a .width) (a .width) (omega (arith, room i)),
-      rw (← cw-is (i .before .before .before)) (suffix-room (a .planes .now) (second + chroma) cw (omega (arith, room i))),
-      rw (← cw-is (i .before .before .before)) (suffix-room (a .planes .now) (third + chroma) cw (omega (arith, room i))),
+      rw (← cw-is (i .before .before)) (suffix-room (a .planes .now) (second + chroma) cw (omega (arith, room i))),
+      rw (← cw-is (i .before .before)) (suffix-room (a .planes .now) (third + chroma) cw (omega (arith, room i))),
       suffix-room (a .alpha .now) (l .row * a .step) _ (shown i .fits),
       suffix-room (l .image) (l .row * size) size (fits i .fits),
-      omega (arith, l .inv .1, s .pre .7),
-      omega (arith, l .inv .2, s .pre .8),
+      omega (arith, l .inv .2, s .pre .7),
+      omega (arith, l .inv .3, s .pre .8),
     )
+
+next-chroma-start-requires : tie.Need-next-chroma-start-requires Inv-loop μ-loop
+next-chroma-start-requires c κs = omega (arith, room (c .before .before .before .before .before .before .before .before .before .before .before .before .before .before))
 
 add-row : tie.Need-add-row Inv-loop μ-loop
 add-row c = omega arith
@@ -178,17 +174,18 @@ loop-less c = omega arith
 
 loop-again : tie.Need-loop-again Inv-loop μ-loop
 loop-again c =
-    let i = c .before .before .before .before .before .before .before .before .before .before .before .before .before .before in
-    let a = i .before .before .before .before .before .before .before .before .before .before .before .args in
-    let l = i .before .before .loop in
-    let w = c .before .before .before .before .before .before .write-row in
-    let cw = i .before .before .before .before .chroma-side .result in
-    let ch = i .before .before .before .chroma-side2 .result in (
+    let i = c .before .before .before .before .before .before .before .before .before .before .before .before .before .before .before in
+    let a = i .before .before .before .before .before .before .before .before .before .before .args in
+    let l = i .before .loop in
+    let w = c .before .before .before .before .before .before .before .write-row in
+    let cw = i .before .before .before .chroma-side .result in
+    let ch = i .before .before .chroma-side2 .result in (
       omega arith,
-      w .kept .1 .1 .1 .1 .1 .1 .1 .1 .1 .0 ∙ l .inv .1,
-      w .kept .1 .1 .1 .1 .1 .1 .1 .1 .1 .1 .0 ∙ l .inv .2,
-      image-step _ (l .image) _ _ (l .row) (4 * a .width) _ (l .inv .3) (w .ensures)
-          (row-is (fourBytes (channelOffsets (a .layout))) (a .definition) (a .flagged) (a .planes .now) (a .alpha .now) (a .width) (a .height) (l .row) (a .step) cw ch (i .chroma-index .result) (cw-is (i .before .before .before)) (ch-is (i .before .before .before)) (chroma-is i)) (w .kept .1 .1 .1 .1 .1 .1 .1 .0),
+      chroma-step _ _ (a .width) (l .row) cw (l .chroma) _ (i .before .before .before .before .has-subsampled-chroma .ensures) (cw-is (i .before .before)) (l .inv .1) (c .next-chroma-start .ensures),
+      w .kept .1 .1 .1 .1 .1 .1 .1 .1 .1 .0 ∙ l .inv .2,
+      w .kept .1 .1 .1 .1 .1 .1 .1 .1 .1 .1 .0 ∙ l .inv .3,
+      image-step _ (l .image) _ _ (l .row) (4 * a .width) _ (l .inv .4) (w .ensures)
+          (row-is (fourBytes (channelOffsets (a .layout))) (a .definition) (a .flagged) (a .planes .now) (a .alpha .now) (a .width) (a .height) (l .row) (a .step) cw ch (l .chroma) (cw-is (i .before .before)) (ch-is (i .before .before)) (l .inv .1)) (w .kept .1 .1 .1 .1 .1 .1 .1 .0),
     )
 
 same-length : tie.Need-same-length Inv-loop μ-loop
@@ -204,7 +201,7 @@ returns : tie.Need-returns Inv-loop μ-loop
 returns c =
     let a = c .before .before .before .before .before .before .before .before .before .before .args in
     let l = c .before .loop in
-    image-end _ _ _ _ _ _ (l .inv .3) (omega arith)
+    image-end _ _ _ _ _ _ (l .inv .4) (omega arith)
     ∙ ap (λ (k : ℕ). writeRows k (rowWith (fourBytes (channelOffsets (a .layout))) (a .definition) (a .flagged) (a .width) (a .height) (a .planes .now) (a .alpha .now) (a .step)) (a .height) (a .image .now)) (row-size-is (fourBytes (channelOffsets (a .layout))) (a .width) _ refl)
 
 pub write-pixel-rows-spec : {M : Type 1} → statement M
@@ -221,8 +218,6 @@ write-pixel-rows-spec =
     add-third
     mul-size
     loop-holds
-    chroma-index-requires
-    mul-chroma
     mul-write-row
     sub-write-row
     part-write-row-start
@@ -244,6 +239,7 @@ write-pixel-rows-spec =
     part-write-row-start-5
     part-write-row-end-5
     write-row-requires
+    next-chroma-start-requires
     add-row
     loop-less
     loop-again

@@ -1,0 +1,160 @@
+-- The chroma samples found by counting are those of `chromaIndex`, for every pixel; and what the loops need of it: where the chroma row of a row
+-- starts, and the chroma column of a column, each from the one before.
+use Prim.Native.Nat.{ℕ, zero, suc, _+_, _-_, _*_, _/_, _%_, _<_}
+use mathlib.Core.Bool.{Bool, true, false}
+use mathlib.Core.Path.{_≡_, refl, sym, ap, _∙_}
+use native.Mathlib.Nat.{zero-mul, suc-mul, mul-zero, mul-one}
+use native.Mathlib.Numerals.{add-one}
+use native.Mathlib.Omega.{arith}
+use lib.Dec.{eqb, ltb}
+use borrow.Author.Tests.{eqb-true, eqb-false, lt-ltb, le-ltb}
+use Rattle.rle_format.specs.Choice.{choose}
+use Rattle.bitmap_format.specs.Planes.{chromaSide}
+use Rattle.bitmap_format.specs.Image.{chromaIndex}
+use Rattle.bitmap_format.specs.Counting.{CountedPixel, sampleIndex, nextCount, nextInRow, nextRow, nextPixel, countedPixel, pixelByIndex, ChromaIndexByCounting, IsChromaStart, IsChromaColumn}
+use Rattle.bitmap_format.proofs.PixelAt.{in-plane, place-below}
+
+-- ---- one count
+
+-- the count of number 0
+count-start : (s : Bool) (step : ℕ) → chromaIndex s 0 * step ≡ 0
+unfolding chromaIndex
+count-start true step = zero-mul step
+count-start false step = zero-mul step
+
+-- the count of the next number
+pub count-step : (s : Bool) (step n : ℕ) → nextCount s step n (chromaIndex s n * step) ≡ chromaIndex s (n + 1) * step
+unfolding chromaIndex nextCount
+count-step false step n = sym (suc-mul n step) ∙ ap (λ (k : ℕ). k * step) (sym (add-one n))
+count-step true step n = go (eqb (n % 2) 0) refl
+  where
+    go : (t : Bool) → eqb (n % 2) 0 ≡ t → choose t (n / 2 * step) (n / 2 * step + step) ≡ (n + 1) / 2 * step
+    go true et =
+        let even = eqb-true (n % 2) 0 et in
+        let same : n / 2 ≡ (n + 1) / 2 = omega arith in
+        ap (λ (k : ℕ). k * step) same
+    go false et =
+        let odd = eqb-false (n % 2) 0 et in
+        let more : suc (n / 2) ≡ (n + 1) / 2 = omega arith in
+        sym (suc-mul (n / 2) step) ∙ ap (λ (k : ℕ). k * step) more
+
+-- the same with a step of 1
+column-step : (s : Bool) (n : ℕ) → nextCount s 1 n (chromaIndex s n) ≡ chromaIndex s (n + 1)
+column-step s n = ap (nextCount s 1 n) (sym (mul-one (chromaIndex s n))) ∙ count-step s 1 n ∙ mul-one (chromaIndex s (n + 1))
+
+-- what a test of the code says of the next count
+pub count-stays : (s : Bool) (step n count : ℕ) → s ≡ true → n % 2 ≡ 0 → nextCount s step n count ≡ count
+unfolding nextCount
+count-stays s step n count es e = rw (es, e)
+
+pub count-full : (s : Bool) (step n count : ℕ) → s ≡ false → nextCount s step n count ≡ count + step
+unfolding nextCount
+count-full s step n count es = rw es
+
+pub count-odd : (s : Bool) (step n count : ℕ) → (n % 2 ≡ 0 → ⊥) → nextCount s step n count ≡ count + step
+unfolding nextCount
+count-odd false step n count h = refl
+count-odd true step n count h = go (eqb (n % 2) 0) refl
+  where
+    go : (t : Bool) → eqb (n % 2) 0 ≡ t → choose t count (count + step) ≡ count + step
+    go true et = absurd (h (eqb-true (n % 2) 0 et))
+    go false et = refl
+
+-- ---- every pixel, in the order of the image
+
+first-index : (s : Bool) → chromaIndex s 0 ≡ 0
+unfolding chromaIndex
+first-index true = refl
+first-index false = refl
+
+module _ (s : Bool) (width : ℕ) where
+  in-row : (row column : ℕ) → column + 1 < width → nextPixel s width (pixelByIndex s width row column) ≡ pixelByIndex s width row (column + 1)
+  unfolding nextPixel nextInRow
+  in-row row column h =
+      ap (λ (t : Bool). choose t (nextInRow s (pixelByIndex s width row column)) (nextRow s width (pixelByIndex s width row column))) (lt-ltb (column + 1) width h)
+      ∙ (λ i. record { row = row; column = column + 1; chromaStart = chromaIndex s row * chromaSide s width; chromaColumn = column-step s column i })
+
+  to-next-row : (row column : ℕ) → column + 1 ≡ width → nextPixel s width (pixelByIndex s width row column) ≡ pixelByIndex s width (row + 1) 0
+  unfolding nextPixel nextRow
+  to-next-row row column e =
+      ap (λ (t : Bool). choose t (nextInRow s (pixelByIndex s width row column)) (nextRow s width (pixelByIndex s width row column))) (le-ltb (column + 1) width (omega arith))
+      ∙ (λ i. record { row = row + 1; column = 0; chromaStart = count-step s (chromaSide s width) row i; chromaColumn = sym (first-index s) i })
+
+  first-counted : countedPixel s width 0 ≡ pixelByIndex s width 0 0
+  unfolding countedPixel
+  first-counted = λ i. record { row = 0; column = 0; chromaStart = sym (count-start s (chromaSide s width)) i; chromaColumn = sym (first-index s) i }
+
+  next-counted : (n m : ℕ) → m ≡ suc n → countedPixel s width m ≡ nextPixel s width (countedPixel s width n)
+  unfolding countedPixel
+  next-counted n m e = ap (countedPixel s width) e
+
+  -- from the first pixel of a row on
+  along : (row column : ℕ) → countedPixel s width (row * width) ≡ pixelByIndex s width row 0 → column < width → countedPixel s width (row * width + column) ≡ pixelByIndex s width row column
+  along row zero first h = let n : row * width + 0 ≡ row * width = omega arith in ap (countedPixel s width) n ∙ first
+  along row (suc column) first h =
+      let n : row * width + suc column ≡ suc (row * width + column) = omega arith in
+      next-counted (row * width + column) (row * width + suc column) n
+      ∙ ap (nextPixel s width) (along row column first (omega arith))
+      ∙ in-row row column (omega arith)
+      ∙ ap (pixelByIndex s width row) (add-one column)
+
+  row-counted : (row : ℕ) → 0 < width → countedPixel s width (row * width) ≡ pixelByIndex s width row 0
+  row-counted zero h = ap (countedPixel s width) (zero-mul width) ∙ first-counted
+  row-counted (suc row) h =
+      let n : suc row * width ≡ suc (row * width + (width - 1)) = omega (arith, suc-mul row width) in
+      next-counted (row * width + (width - 1)) (suc row * width) n
+      ∙ ap (nextPixel s width) (along row (width - 1) (row-counted row h) (omega arith))
+      ∙ to-next-row row (width - 1) (omega arith)
+      ∙ ap (λ (k : ℕ). pixelByIndex s width k 0) (add-one row)
+
+  pixel-counted : (row column : ℕ) → column < width → countedPixel s width (row * width + column) ≡ pixelByIndex s width row column
+  pixel-counted row column h = along row column (row-counted row (omega arith)) h
+
+pub chroma-index-by-counting : ChromaIndexByCounting
+chroma-index-by-counting s width height row column below-height below-width =
+    let here = pixel-counted s width row column below-width in
+    let at : sampleIndex (countedPixel s width (row * width + column)) ≡ chromaIndex s row * chromaSide s width + chromaIndex s column = ap sampleIndex here in
+    record {
+      pixel = here;
+      index = at;
+      within = rw at (in-plane (chromaIndex s row) (chromaIndex s column) (chromaSide s width) (chromaSide s height) (place-below s row height below-height) (place-below s column width below-width));
+    }
+
+-- ---- the counts of the loop over rows
+
+-- without a width there is one start for all rows
+no-width : (s : Bool) (row : ℕ) → countedPixel s 0 0 .chromaStart ≡ chromaIndex s row * chromaSide s 0
+unfolding countedPixel chromaSide
+no-width true row = sym (mul-zero (chromaIndex true row))
+no-width false row = sym (mul-zero (chromaIndex false row))
+
+pub start-is : (s : Bool) (width row count : ℕ) → IsChromaStart s width row count → count ≡ chromaIndex s row * chromaSide s width
+start-is s zero row count e = sym e ∙ ap (λ (n : ℕ). countedPixel s 0 n .chromaStart) (mul-zero row) ∙ no-width s row
+start-is s (suc w) row count e = sym e ∙ ap (λ (p : CountedPixel). p .chromaStart) (row-counted s (suc w) row (omega arith))
+
+start-counted : (s : Bool) (width row : ℕ) → IsChromaStart s width row (chromaIndex s row * chromaSide s width)
+start-counted s width row = start-is s width row (countedPixel s width (row * width) .chromaStart) refl
+
+pub start-first : (s : Bool) (width : ℕ) → IsChromaStart s width 0 0
+start-first s width = start-counted s width 0 ∙ count-start s (chromaSide s width)
+
+pub start-next : (s : Bool) (width row count : ℕ) → IsChromaStart s width row count → IsChromaStart s width (row + 1) (nextCount s (chromaSide s width) row count)
+start-next s width row count e =
+    start-counted s width (row + 1)
+    ∙ sym (count-step s (chromaSide s width) row)
+    ∙ ap (nextCount s (chromaSide s width) row) (sym (start-is s width row count e))
+
+-- ---- the counts of the loops over columns
+
+pub column-is : (s : Bool) (column count : ℕ) → IsChromaColumn s column count → count ≡ chromaIndex s column
+column-is s column count e = sym (e (suc column) 0 (omega arith)) ∙ ap (λ (p : CountedPixel). p .chromaColumn) (pixel-counted s (suc column) 0 column (omega arith))
+
+column-counted : (s : Bool) (column : ℕ) → IsChromaColumn s column (chromaIndex s column)
+column-counted s column width row h = ap (λ (p : CountedPixel). p .chromaColumn) (pixel-counted s width row column h)
+
+pub column-first : (s : Bool) → IsChromaColumn s 0 0
+column-first s width row h = column-counted s 0 width row h ∙ first-index s
+
+pub column-next : (s : Bool) (column count : ℕ) → IsChromaColumn s column count → IsChromaColumn s (column + 1) (nextCount s 1 column count)
+column-next s column count e width row h =
+    column-counted s (column + 1) width row h ∙ sym (column-step s column) ∙ ap (nextCount s 1 column) (sym (column-is s column count e))
