@@ -1,5 +1,5 @@
 -- The loops that write a row: their invariants, and a law for each step. A pixel has `size` bytes; a sample that is doubled is a pixel of one.
-use Prim.Native.Nat.{ℕ, _+_, _-_, _*_, _/_, _%_, _≤_}
+use Prim.Native.Nat.{ℕ, zero, suc, _+_, _-_, _*_, _/_, _%_, _≤_}
 use mathlib.Core.Bool.{Bool, true, false}
 use mathlib.Core.Path.{_≡_, refl, sym, ap, _∙_}
 use mathlib.Core.List.{List, [], _∷_}
@@ -15,6 +15,8 @@ use Rattle.bitmap_format.specs.Colour.{rgb24, aycocgColour}
 use Rattle.bitmap_format.specs.Planes.{chromaSide}
 use Rattle.bitmap_format.specs.Image.{chromaIndex, concatUpTo}
 use Rattle.bitmap_format.specs.Pixels.{threeBytes}
+use Rattle.bitmap_format.specs.Counting.{IsChromaColumn}
+use Rattle.bitmap_format.proofs.Counting.{count-stays, count-full, count-odd, column-is, column-first, column-next}
 use Rattle.bitmap_format.proofs.Image.{length-concatUpTo}
 use Rattle.bitmap_rows.specs.Rows.{pixelAt}
 
@@ -89,29 +91,51 @@ module _ (size : ℕ) (d₀ : List ℕ) (f : ℕ → List ℕ) (sized : (i : ℕ
         let head : PixelInvariant d₀ d (width - 1) f = record { len = same; row = pairs ∙ ap (λ (k : ℕ). overwrite d₀ (concatUpTo k f)) n } in
         pixels-end d₀ d₁ (width - 1 + 1) width f (pixels-step d d₁ (width - 1) at vs head ev ea same₁ e) m
 
--- ---- the columns of chroma samples (FORMAT 6.3)
+-- ---- the columns of chroma samples, by counting (FORMAT 6.3)
 
-pub chromaIndex-even : (pair : ℕ) → pair ≡ chromaIndex true (2 * pair)
-unfolding chromaIndex
-chromaIndex-even pair = omega arith
+-- not subsampled: the next column
+pub full-next : (column : ℕ) → IsChromaColumn false column column → IsChromaColumn false (column + 1) (column + 1)
+full-next column h width row below = column-next false column column h width row below ∙ count-full false 1 column column refl
 
-pub chromaIndex-odd : (pair : ℕ) → pair ≡ chromaIndex true (2 * pair + 1)
-unfolding chromaIndex
-chromaIndex-odd pair = omega arith
+-- subsampled: `pair` is counted at an even column; the odd one behind it has the same count
+pub pair-right : (pair : ℕ) → IsChromaColumn true (2 * pair) pair → IsChromaColumn true (2 * pair + 1) pair
+pair-right pair h width row below =
+    column-next true (2 * pair) pair h width row below ∙ count-stays true 1 (2 * pair) pair refl (omega arith)
 
-pub chromaIndex-last : (width : ℕ) → width % 2 ≡ 1 → width / 2 ≡ chromaIndex true (width - 1)
-unfolding chromaIndex
-chromaIndex-last width e = omega arith
+-- and the column behind both the next
+pub pair-next : (pair : ℕ) → IsChromaColumn true (2 * pair) pair → IsChromaColumn true (2 * (pair + 1)) (pair + 1)
+pair-next pair h = rw (← behind) next
+  where
+    behind : 2 * pair + 1 + 1 ≡ 2 * (pair + 1)
+    behind = omega arith
 
--- a three-byte pixel with the chroma samples at an index
-pub aycocg-pixel : (flagged : Bool) (level : ℕ) (s : Bool) (y co cg : List ℕ) (column index : ℕ) (c : Rgb) → index ≡ chromaIndex s column
-    → c ≡ aycocgColour flagged level (getD y column 0) (getD co index 0) (getD cg index 0) → rgb24 c ≡ pixelAt threeBytes (AYCoCg level s) flagged y co cg [] column
-aycocg-pixel flagged level s y co cg column index c e ec =
+    odd : (2 * pair + 1) % 2 ≡ 0 → ⊥
+    odd e = omega arith
+
+    next : IsChromaColumn true (2 * pair + 1 + 1) (pair + 1)
+    next width row below =
+        column-next true (2 * pair + 1) pair (pair-right pair h) width row below ∙ count-odd true 1 (2 * pair + 1) pair odd
+
+pairs-counted : (pairs : ℕ) → IsChromaColumn true (2 * pairs) pairs
+pairs-counted zero = column-first true
+pairs-counted (suc pairs) = rw (← add-one pairs) (pair-next pairs (pairs-counted pairs))
+
+-- the last column of an odd width
+pub last-counted : (width : ℕ) → width % 2 ≡ 1 → IsChromaColumn true (width - 1) (width / 2)
+last-counted width e =
+    let last : 2 * (width / 2) ≡ width - 1 = omega arith in
+    rw (← last) (pairs-counted (width / 2))
+
+-- a three-byte pixel with the chroma samples that are counted for its column
+pub aycocg-pixel : (flagged : Bool) (level : ℕ) (s : Bool) (y co cg : List ℕ) (column count : ℕ) (c : Rgb) → IsChromaColumn s column count
+    → c ≡ aycocgColour flagged level (getD y column 0) (getD co count 0) (getD cg count 0) → rgb24 c ≡ pixelAt threeBytes (AYCoCg level s) flagged y co cg [] column
+aycocg-pixel flagged level s y co cg column count c h ec =
+    let e = column-is s column count h in
     ap rgb24 (ec ∙ (λ i. aycocgColour flagged level (getD y column 0) (getD co (e i) 0) (getD cg (e i) 0)))
 
--- a chroma sample at an index
-pub sample-at : (samples : List ℕ) (column index : ℕ) → index ≡ chromaIndex true column → getD samples index 0 ∷ [] ≡ getD samples (chromaIndex true column) 0 ∷ []
-sample-at samples column index e = ap (λ (n : ℕ). getD samples n 0 ∷ []) e
+-- the chroma sample that is counted for a column
+pub sample-at : (samples : List ℕ) (column count : ℕ) → IsChromaColumn true column count → getD samples count 0 ∷ [] ≡ getD samples (chromaIndex true column) 0 ∷ []
+sample-at samples column count h = ap (λ (n : ℕ). getD samples n 0 ∷ []) (column-is true column count h)
 
 -- the chroma samples that a row needs
 pub chroma-subsampled : (s : Bool) (width n : ℕ) → s ≡ true → chromaSide s width ≤ n → (width + 1) / 2 ≤ n

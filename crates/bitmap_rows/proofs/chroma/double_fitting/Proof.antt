@@ -2,7 +2,7 @@
 use lib.ListN.{length, getD, set, length-set}
 use Prim.Native.Nat.{_-_, _/_, _<_}
 use mathlib.Core.List.{[], _∷_}
-use Rattle.bitmap_rows.proofs.PixelLoop.{pixels-even-width, pixels-odd-width, sample-at, chromaIndex-last, chroma-half}
+use Rattle.bitmap_rows.proofs.PixelLoop.{pixels-even-width, pixels-odd-width, sample-at, last-counted, chroma-half}
 use Rattle.rle_format.proofs.Slice.{set-writeAt}
 use native.Mathlib.Omega.{arith}
 use mathlib.Core.Path.{refl}
@@ -40,7 +40,7 @@ returns c =
     let odd = c .before .if1 .taken in
     let room : a .width - 1 < length d = omega (arith, p .kept .1 .0, s .pre .1) in
     pixels-odd-width 1 (a .doubled .now) _ (λ i. refl) d (a .width) (p .ensures) (set d (a .width - 1) v) (a .width - 1) (v ∷ []) odd (p .kept .1 .0)
-    (sample-at (a .samples .now) (a .width - 1) (a .width / 2) (chromaIndex-last (a .width) odd)) (omega arith) (length-set d (a .width - 1) v) (set-writeAt d (a .width - 1) v room)
+    (sample-at (a .samples .now) (a .width - 1) (a .width / 2) (last-counted (a .width) odd)) (omega arith) (length-set d (a .width - 1) v) (set-writeAt d (a .width - 1) v room)
 
 same-length-2 : tie.Need-same-length-2
 same-length-2 c = search needs

@@ -1,7 +1,10 @@
--- `double_pairs`: an iteration of its loop is two columns; the invariant is `PixelInvariant` of PixelLoop.antt, with pixels of one byte. Assumes nothing.
-use Rattle.bitmap_rows.proofs.PixelLoop.{PixelInvariant, pixels-start, pixels-pair-step, pixels-end, sample-at, chromaIndex-even, chromaIndex-odd}
+-- `double_pairs`: an iteration of its loop is two columns. The invariant is `PixelInvariant` of PixelLoop.antt, with pixels of one byte, and that `pair` is
+-- what counting gives as the chroma column. Assumes nothing.
+use Rattle.bitmap_rows.proofs.PixelLoop.{PixelInvariant, pixels-start, pixels-pair-step, pixels-end, sample-at, pair-right, pair-next}
 use Rattle.rle_format.proofs.Slice.{set-writeAt}
 use Rattle.bitmap_format.specs.Image.{chromaIndex}
+use Rattle.bitmap_format.specs.Counting.{IsChromaColumn}
+use Rattle.bitmap_format.proofs.Counting.{column-first}
 use mathlib.Core.Bool.{true}
 use mathlib.Core.List.{[], _∷_}
 use native.Mathlib.Omega.{arith}
@@ -12,13 +15,13 @@ use Rattle.bitmap_rows.proofs.chroma.double_pairs.Statement.{statement}
 use Rattle.bitmap_rows.proofs.chroma.double_pairs.Tie as tie
 
 abbrev Inv-loop : tie.InvT-loop
-Inv-loop samples doubled₀ pairs pair₀ doubled pair = (pair ≤ pairs) × PixelInvariant doubled₀ doubled (2 * pair) (λ (column : ℕ). getD samples (chromaIndex true column) 0 ∷ [])
+Inv-loop samples doubled₀ pairs pair₀ doubled pair = (pair ≤ pairs) × IsChromaColumn true (2 * pair) pair × PixelInvariant doubled₀ doubled (2 * pair) (λ (column : ℕ). getD samples (chromaIndex true column) 0 ∷ [])
 
 abbrev μ-loop : tie.MeasureT-loop
 μ-loop samples doubled₀ pairs pair₀ doubled pair = pairs - pair
 
 loop-holds : tie.Need-loop-holds Inv-loop μ-loop
-loop-holds c = (omega arith, pixels-start _ _)
+loop-holds c = (omega arith, column-first true, pixels-start _ _)
 
 shared-slice-read-sample : tie.Need-shared-slice-read-sample Inv-loop μ-loop
 shared-slice-read-sample c = omega arith
@@ -53,9 +56,10 @@ loop-again c =
     let e = set-writeAt d (2 * l .pair) v (omega arith) in
     let room : 2 * l .pair + 1 < length (set d (2 * l .pair) v) = simp length-set (omega arith) in (
       omega arith,
-      pixels-pair-step 1 _ _ (λ i. refl) d (set d (2 * l .pair) v) _ (l .pair) (2 * l .pair) (2 * l .pair + 1) (v ∷ []) (v ∷ []) (l .inv .1)
-          (sample-at (a .samples .now) (2 * l .pair) (l .pair) (chromaIndex-even (l .pair))) (omega arith) (length-set d (2 * l .pair) v) e
-          (sample-at (a .samples .now) (2 * l .pair + 1) (l .pair) (chromaIndex-odd (l .pair))) (omega arith) (length-set (set d (2 * l .pair) v) (2 * l .pair + 1) v)
+      pair-next (l .pair) (l .inv .1),
+      pixels-pair-step 1 _ _ (λ i. refl) d (set d (2 * l .pair) v) _ (l .pair) (2 * l .pair) (2 * l .pair + 1) (v ∷ []) (v ∷ []) (l .inv .2)
+          (sample-at (a .samples .now) (2 * l .pair) (l .pair) (l .inv .1)) (omega arith) (length-set d (2 * l .pair) v) e
+          (sample-at (a .samples .now) (2 * l .pair + 1) (l .pair) (pair-right (l .pair) (l .inv .1))) (omega arith) (length-set (set d (2 * l .pair) v) (2 * l .pair + 1) v)
           (set-writeAt (set d (2 * l .pair) v) (2 * l .pair + 1) v room),
     )
 
@@ -63,7 +67,7 @@ same-length : tie.Need-same-length Inv-loop μ-loop
 same-length c = omega arith
 
 returns : tie.Need-returns Inv-loop μ-loop
-returns c = pixels-end _ _ _ _ _ (c .before .loop .inv .1) (omega arith)
+returns c = pixels-end _ _ _ _ _ (c .before .loop .inv .2) (omega arith)
 
 pub double-pairs-spec : {M : Type 1} → statement M
 double-pairs-spec =

@@ -1,6 +1,6 @@
--- `write_pairs`: an iteration of its loop is two pixels that share their chroma samples; the invariant is `PixelInvariant` of PixelLoop.antt.
--- Assumes nothing.
-use Rattle.bitmap_rows.proofs.PixelLoop.{pixels-pair-step, aycocg-pixel, chromaIndex-even, chromaIndex-odd, PixelInvariant, pixels-start, pixels-end}
+-- `write_pairs`: an iteration of its loop is two pixels that share their chroma samples. The invariant is `PixelInvariant` of PixelLoop.antt, and that
+-- `pair` is what counting gives as the chroma column. Assumes nothing.
+use Rattle.bitmap_rows.proofs.PixelLoop.{pixels-pair-step, aycocg-pixel, pair-right, pair-next, PixelInvariant, pixels-start, pixels-end}
 use Prim.Native.Nat.{_+_, _-_, _*_, _^_, _<_, _≤_}
 use mathlib.Core.Bool.{true}
 use native.Mathlib.Omega.{arith}
@@ -9,6 +9,8 @@ use mathlib.Core.Path.{refl, sym, _∙_}
 use mathlib.Core.List.{[]}
 use Rattle.bitmap_format.specs.declared.ColorPlaneDefinition.the-variants.{AYCoCg}
 use Rattle.bitmap_format.specs.Pixels.{threeBytes}
+use Rattle.bitmap_format.specs.Counting.{IsChromaColumn}
+use Rattle.bitmap_format.proofs.Counting.{column-first}
 use Rattle.bitmap_color.proofs.Colour.{colour-level-valid}
 use Rattle.bitmap_rows.specs.Rows.{pixelAt}
 use Rattle.bitmap_rows.proofs.Inner.{level-0, level-over-7, level-valid}
@@ -16,7 +18,7 @@ use Rattle.bitmap_rows.proofs.rgb24.write_pairs.Statement.{statement}
 use Rattle.bitmap_rows.proofs.rgb24.write_pairs.Tie as tie
 
 abbrev Inv-loop : tie.InvT-loop
-Inv-loop params y co cg dst₀ pairs pair₀ dst pair = (pair ≤ pairs) × (6 * pairs < 2 ^ 64) × PixelInvariant dst₀ dst (2 * pair) (pixelAt threeBytes (AYCoCg (params .«color_loss_level») true) (params .alpha) y co cg [])
+Inv-loop params y co cg dst₀ pairs pair₀ dst pair = (pair ≤ pairs) × IsChromaColumn true (2 * pair) pair × (6 * pairs < 2 ^ 64) × PixelInvariant dst₀ dst (2 * pair) (pixelAt threeBytes (AYCoCg (params .«color_loss_level») true) (params .alpha) y co cg [])
 
 abbrev μ-loop : tie.MeasureT-loop
 μ-loop params y co cg dst₀ pairs pair₀ dst pair = pairs - pair
@@ -28,7 +30,7 @@ returns-2 : tie.Need-returns-2 Inv-loop μ-loop
 returns-2 c = level-over-7 _ _ _ _ (c .before .before .if1 .left) (c .if2 .taken)
 
 loop-holds : tie.Need-loop-holds Inv-loop μ-loop
-loop-holds c = (omega arith, omega arith, pixels-start _ _)
+loop-holds c = (omega arith, column-first true, omega arith, pixels-start _ _)
 
 shared-slice-read-o : tie.Need-shared-slice-read-o Inv-loop μ-loop
 shared-slice-read-o c = omega arith
@@ -88,10 +90,11 @@ loop-again c =
     let n = h .before .before .before .if1 .left in
     let m = h .before .if2 .left in (
       omega (arith, c .before .before .before .before .before .before .before .before .before .before .before .before .before .before .loop-test .taken),
-      l .inv .1,
-      pixels-pair-step 3 _ _ (λ i. refl) (l .dst) (v .last .0) _ (l .pair) _ _ _ _ (l .inv .2)
-          (aycocg-pixel _ _ true (a .y .now) (a .co .now) (a .cg .now) (2 * l .pair) (l .pair) _ (chromaIndex-even (l .pair)) (c .before .before .before .before .before .before .before .before .before .before .aycocg-color .ensures ∙ colour-level-valid _ _ _ _ _ n m)) (omega arith) (v .kept .0) (v .ensures)
-          (aycocg-pixel _ _ true (a .y .now) (a .co .now) (a .cg .now) (2 * l .pair + 1) (l .pair) _ (chromaIndex-odd (l .pair)) (c .before .before .before .before .before .before .before .before .aycocg-color2 .ensures ∙ colour-level-valid _ _ _ _ _ n m)) (omega arith) (w .kept .0) (w .ensures),
+      pair-next (l .pair) (l .inv .1),
+      l .inv .2,
+      pixels-pair-step 3 _ _ (λ i. refl) (l .dst) (v .last .0) _ (l .pair) _ _ _ _ (l .inv .3)
+          (aycocg-pixel _ _ true (a .y .now) (a .co .now) (a .cg .now) (2 * l .pair) (l .pair) _ (l .inv .1) (c .before .before .before .before .before .before .before .before .before .before .aycocg-color .ensures ∙ colour-level-valid _ _ _ _ _ n m)) (omega arith) (v .kept .0) (v .ensures)
+          (aycocg-pixel _ _ true (a .y .now) (a .co .now) (a .cg .now) (2 * l .pair + 1) (l .pair) _ (pair-right (l .pair) (l .inv .1)) (c .before .before .before .before .before .before .before .before .aycocg-color2 .ensures ∙ colour-level-valid _ _ _ _ _ n m)) (omega arith) (w .kept .0) (w .ensures),
     )
 
 same-length : tie.Need-same-length Inv-loop μ-loop
@@ -100,7 +103,7 @@ same-length c = omega arith
 returns-3 : tie.Need-returns-3 Inv-loop μ-loop
 returns-3 c =
     let h = c .before in
-    pixels-end _ _ _ _ _ (h .loop .inv .2) (omega arith) ∙ sym (level-valid _ _ _ _ (h .before .before .before .if1 .left) (h .before .if2 .left))
+    pixels-end _ _ _ _ _ (h .loop .inv .3) (omega arith) ∙ sym (level-valid _ _ _ _ (h .before .before .before .if1 .left) (h .before .if2 .left))
 
 pub write-pairs-spec : {M : Type 1} → statement M
 write-pairs-spec =

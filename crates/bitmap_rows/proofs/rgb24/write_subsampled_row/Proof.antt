@@ -1,6 +1,6 @@
 -- `write_subsampled_row`: the pairs, and the last pixel of an odd width. Assumes nothing.
 use mathlib.Core.Bool.{true}
-use Rattle.bitmap_rows.proofs.PixelLoop.{pixels-even-width, pixels-odd-width, aycocg-pixel, chromaIndex-last}
+use Rattle.bitmap_rows.proofs.PixelLoop.{pixels-even-width, pixels-odd-width, aycocg-pixel, last-counted}
 use mathlib.Core.Path.{refl, sym, _∙_}
 use Rattle.bitmap_color.proofs.Colour.{colour-level-valid}
 use Rattle.bitmap_rows.proofs.Inner.{level-0, level-over-7, level-valid}
@@ -53,7 +53,7 @@ returns-3 c =
     let n = c .before .before .before .before .before .before .before .before .before .before .before .before .before .before .before .if1 .left in
     let m = c .before .before .before .before .before .before .before .before .before .before .before .before .before .if2 .left in
     pixels-odd-width 3 _ _ (λ i. refl) _ (a .width) (p .ensures ∙ level-valid _ _ _ _ n m) _ _ _ odd (p .kept .1 .1 .1 .1 .0)
-    (aycocg-pixel _ _ true (a .y .now) (a .co .now) (a .cg .now) _ _ _ (chromaIndex-last (a .width) odd) (c .before .before .before .before .aycocg-color .ensures ∙ colour-level-valid _ _ _ _ _ n m)) refl (w .kept .0) (w .ensures)
+    (aycocg-pixel _ _ true (a .y .now) (a .co .now) (a .cg .now) _ _ _ (last-counted (a .width) odd) (c .before .before .before .before .aycocg-color .ensures ∙ colour-level-valid _ _ _ _ _ n m)) refl (w .kept .0) (w .ensures)
     ∙ sym (level-valid _ _ _ _ n m)
 
 same-length-2 : tie.Need-same-length-2
