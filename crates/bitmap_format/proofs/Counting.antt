@@ -11,22 +11,22 @@ use borrow.Author.Tests.{eqb-true, eqb-false, lt-ltb, le-ltb}
 use Rattle.rle_format.specs.Choice.{choose}
 use Rattle.bitmap_format.specs.Planes.{chromaSide}
 use Rattle.bitmap_format.specs.Image.{chromaIndex}
-use Rattle.bitmap_format.specs.Counting.{CountedPixel, sampleIndex, nextCount, nextInRow, nextRow, nextPixel, countedPixel, pixelByIndex, ChromaIndexByCounting, IsChromaStart, IsChromaColumn}
+use Rattle.bitmap_format.specs.Counting.{CountedPixel, sampleIndex, nextCounter, nextInRow, nextRow, nextPixel, countedPixel, pixelByIndex, ChromaIndexByCounting, IsChromaStart, IsChromaColumn}
 use Rattle.bitmap_format.proofs.PixelAt.{in-plane, place-below}
 
--- ---- one count
+-- ---- one counter
 
--- the count of number 0
-count-start : (s : Bool) (step : ℕ) → chromaIndex s 0 * step ≡ 0
+-- the counter of row or column 0
+counter-start : (s : Bool) (step : ℕ) → chromaIndex s 0 * step ≡ 0
 unfolding chromaIndex
-count-start true step = zero-mul step
-count-start false step = zero-mul step
+counter-start true step = zero-mul step
+counter-start false step = zero-mul step
 
--- the count of the next number
-pub count-step : (s : Bool) (step n : ℕ) → nextCount s step n (chromaIndex s n * step) ≡ chromaIndex s (n + 1) * step
-unfolding chromaIndex nextCount
-count-step false step n = sym (suc-mul n step) ∙ ap (λ (k : ℕ). k * step) (sym (add-one n))
-count-step true step n = go (eqb (n % 2) 0) refl
+-- and of the next
+pub counter-step : (s : Bool) (step n : ℕ) → nextCounter s step n (chromaIndex s n * step) ≡ chromaIndex s (n + 1) * step
+unfolding chromaIndex nextCounter
+counter-step false step n = sym (suc-mul n step) ∙ ap (λ (k : ℕ). k * step) (sym (add-one n))
+counter-step true step n = go (eqb (n % 2) 0) refl
   where
     go : (t : Bool) → eqb (n % 2) 0 ≡ t → choose t (n / 2 * step) (n / 2 * step + step) ≡ (n + 1) / 2 * step
     go true et =
@@ -39,24 +39,24 @@ count-step true step n = go (eqb (n % 2) 0) refl
         sym (suc-mul (n / 2) step) ∙ ap (λ (k : ℕ). k * step) more
 
 -- the same with a step of 1
-column-step : (s : Bool) (n : ℕ) → nextCount s 1 n (chromaIndex s n) ≡ chromaIndex s (n + 1)
-column-step s n = ap (nextCount s 1 n) (sym (mul-one (chromaIndex s n))) ∙ count-step s 1 n ∙ mul-one (chromaIndex s (n + 1))
+column-step : (s : Bool) (n : ℕ) → nextCounter s 1 n (chromaIndex s n) ≡ chromaIndex s (n + 1)
+column-step s n = ap (nextCounter s 1 n) (sym (mul-one (chromaIndex s n))) ∙ counter-step s 1 n ∙ mul-one (chromaIndex s (n + 1))
 
--- what a test of the code says of the next count
-pub count-stays : (s : Bool) (step n count : ℕ) → s ≡ true → n % 2 ≡ 0 → nextCount s step n count ≡ count
-unfolding nextCount
-count-stays s step n count es e = rw (es, e)
+-- the next counter, by the tests of the code
+pub counter-stays : (s : Bool) (step n counter : ℕ) → s ≡ true → n % 2 ≡ 0 → nextCounter s step n counter ≡ counter
+unfolding nextCounter
+counter-stays s step n counter es e = rw (es, e)
 
-pub count-full : (s : Bool) (step n count : ℕ) → s ≡ false → nextCount s step n count ≡ count + step
-unfolding nextCount
-count-full s step n count es = rw es
+pub counter-full : (s : Bool) (step n counter : ℕ) → s ≡ false → nextCounter s step n counter ≡ counter + step
+unfolding nextCounter
+counter-full s step n counter es = rw es
 
-pub count-odd : (s : Bool) (step n count : ℕ) → (n % 2 ≡ 0 → ⊥) → nextCount s step n count ≡ count + step
-unfolding nextCount
-count-odd false step n count h = refl
-count-odd true step n count h = go (eqb (n % 2) 0) refl
+pub counter-odd : (s : Bool) (step n counter : ℕ) → (n % 2 ≡ 0 → ⊥) → nextCounter s step n counter ≡ counter + step
+unfolding nextCounter
+counter-odd false step n counter h = refl
+counter-odd true step n counter h = go (eqb (n % 2) 0) refl
   where
-    go : (t : Bool) → eqb (n % 2) 0 ≡ t → choose t count (count + step) ≡ count + step
+    go : (t : Bool) → eqb (n % 2) 0 ≡ t → choose t counter (counter + step) ≡ counter + step
     go true et = absurd (h (eqb-true (n % 2) 0 et))
     go false et = refl
 
@@ -78,11 +78,11 @@ module _ (s : Bool) (width : ℕ) where
   unfolding nextPixel nextRow
   to-next-row row column e =
       ap (λ (t : Bool). choose t (nextInRow s (pixelByIndex s width row column)) (nextRow s width (pixelByIndex s width row column))) (le-ltb (column + 1) width (omega arith))
-      ∙ (λ i. record { row = row + 1; column = 0; chromaStart = count-step s (chromaSide s width) row i; chromaColumn = sym (first-index s) i })
+      ∙ (λ i. record { row = row + 1; column = 0; chromaStart = counter-step s (chromaSide s width) row i; chromaColumn = sym (first-index s) i })
 
   first-counted : countedPixel s width 0 ≡ pixelByIndex s width 0 0
   unfolding countedPixel
-  first-counted = λ i. record { row = 0; column = 0; chromaStart = sym (count-start s (chromaSide s width)) i; chromaColumn = sym (first-index s) i }
+  first-counted = λ i. record { row = 0; column = 0; chromaStart = sym (counter-start s (chromaSide s width)) i; chromaColumn = sym (first-index s) i }
 
   next-counted : (n m : ℕ) → m ≡ suc n → countedPixel s width m ≡ nextPixel s width (countedPixel s width n)
   unfolding countedPixel
@@ -120,7 +120,7 @@ chroma-index-by-counting s width height row column below-height below-width =
       within = rw at (in-plane (chromaIndex s row) (chromaIndex s column) (chromaSide s width) (chromaSide s height) (place-below s row height below-height) (place-below s column width below-width));
     }
 
--- ---- the counts of the loop over rows
+-- ---- the counter of the loops over rows
 
 -- without a width there is one start for all rows
 no-width : (s : Bool) (row : ℕ) → countedPixel s 0 0 .chromaStart ≡ chromaIndex s row * chromaSide s 0
@@ -128,26 +128,26 @@ unfolding countedPixel chromaSide
 no-width true row = sym (mul-zero (chromaIndex true row))
 no-width false row = sym (mul-zero (chromaIndex false row))
 
-pub start-is : (s : Bool) (width row count : ℕ) → IsChromaStart s width row count → count ≡ chromaIndex s row * chromaSide s width
-start-is s zero row count e = sym e ∙ ap (λ (n : ℕ). countedPixel s 0 n .chromaStart) (mul-zero row) ∙ no-width s row
-start-is s (suc w) row count e = sym e ∙ ap (λ (p : CountedPixel). p .chromaStart) (row-counted s (suc w) row (omega arith))
+pub start-is : (s : Bool) (width row counter : ℕ) → IsChromaStart s width row counter → counter ≡ chromaIndex s row * chromaSide s width
+start-is s zero row counter e = sym e ∙ ap (λ (n : ℕ). countedPixel s 0 n .chromaStart) (mul-zero row) ∙ no-width s row
+start-is s (suc w) row counter e = sym e ∙ ap (λ (p : CountedPixel). p .chromaStart) (row-counted s (suc w) row (omega arith))
 
 start-counted : (s : Bool) (width row : ℕ) → IsChromaStart s width row (chromaIndex s row * chromaSide s width)
 start-counted s width row = start-is s width row (countedPixel s width (row * width) .chromaStart) refl
 
 pub start-first : (s : Bool) (width : ℕ) → IsChromaStart s width 0 0
-start-first s width = start-counted s width 0 ∙ count-start s (chromaSide s width)
+start-first s width = start-counted s width 0 ∙ counter-start s (chromaSide s width)
 
-pub start-next : (s : Bool) (width row count : ℕ) → IsChromaStart s width row count → IsChromaStart s width (row + 1) (nextCount s (chromaSide s width) row count)
-start-next s width row count e =
+pub start-next : (s : Bool) (width row counter : ℕ) → IsChromaStart s width row counter → IsChromaStart s width (row + 1) (nextCounter s (chromaSide s width) row counter)
+start-next s width row counter e =
     start-counted s width (row + 1)
-    ∙ sym (count-step s (chromaSide s width) row)
-    ∙ ap (nextCount s (chromaSide s width) row) (sym (start-is s width row count e))
+    ∙ sym (counter-step s (chromaSide s width) row)
+    ∙ ap (nextCounter s (chromaSide s width) row) (sym (start-is s width row counter e))
 
--- ---- the counts of the loops over columns
+-- ---- the counter of the loops over columns
 
-pub column-is : (s : Bool) (column count : ℕ) → IsChromaColumn s column count → count ≡ chromaIndex s column
-column-is s column count e = sym (e (suc column) 0 (omega arith)) ∙ ap (λ (p : CountedPixel). p .chromaColumn) (pixel-counted s (suc column) 0 column (omega arith))
+pub column-is : (s : Bool) (column counter : ℕ) → IsChromaColumn s column counter → counter ≡ chromaIndex s column
+column-is s column counter e = sym (e (suc column) 0 (omega arith)) ∙ ap (λ (p : CountedPixel). p .chromaColumn) (pixel-counted s (suc column) 0 column (omega arith))
 
 column-counted : (s : Bool) (column : ℕ) → IsChromaColumn s column (chromaIndex s column)
 column-counted s column width row h = ap (λ (p : CountedPixel). p .chromaColumn) (pixel-counted s width row column h)
@@ -155,6 +155,6 @@ column-counted s column width row h = ap (λ (p : CountedPixel). p .chromaColumn
 pub column-first : (s : Bool) → IsChromaColumn s 0 0
 column-first s width row h = column-counted s 0 width row h ∙ first-index s
 
-pub column-next : (s : Bool) (column count : ℕ) → IsChromaColumn s column count → IsChromaColumn s (column + 1) (nextCount s 1 column count)
-column-next s column count e width row h =
-    column-counted s (column + 1) width row h ∙ sym (column-step s column) ∙ ap (nextCount s 1 column) (sym (column-is s column count e))
+pub column-next : (s : Bool) (column counter : ℕ) → IsChromaColumn s column counter → IsChromaColumn s (column + 1) (nextCounter s 1 column counter)
+column-next s column counter e width row h =
+    column-counted s (column + 1) width row h ∙ sym (column-step s column) ∙ ap (nextCounter s 1 column) (sym (column-is s column counter e))

@@ -1,5 +1,5 @@
--- Where the chroma samples of each pixel are, found by counting from pixel to pixel (FORMAT 6.3; document 02, Card 3), and the claim that they are those
--- of `chromaIndex`. proofs/Counting.antt has its proof. No contract uses these; the invariants of the loops over rows and over columns do.
+-- Where the chroma samples of each pixel are, found by counting from pixel to pixel (FORMAT 6.3; document 02, Card 3), and the claim that `chromaIndex`
+-- gives the same. proofs/Counting.antt has its proof. No contract uses these; the invariants of the loops over rows and over columns do.
 use Prim.Native.Nat.{ℕ, zero, suc, _+_, _*_, _%_, _<_}
 use mathlib.Core.Bool.{Bool, _&&_}
 use mathlib.Core.Path.{_≡_}
@@ -8,20 +8,20 @@ use Rattle.rle_format.specs.Choice.{choose}
 use Rattle.bitmap_format.specs.Planes.{chromaSide}
 use Rattle.bitmap_format.specs.Image.{chromaIndex}
 
--- a pixel, and its chroma samples: the index in a chroma plane of the first one of their row, and their column
+-- a pixel, with two counters: the index in a chroma plane where its chroma row starts, and its chroma column
 pub record CountedPixel : Type 0 where
   pub row : ℕ
   pub column : ℕ
   pub chromaStart : ℕ
   pub chromaColumn : ℕ
 
--- the index of its samples in a chroma plane
+-- the index of its sample in a chroma plane
 abbrev pub sampleIndex : CountedPixel → ℕ
 sampleIndex p = p .chromaStart + p .chromaColumn
 
--- a count behind row or column n: `step` more. If subsampled, an even n and the next have the same
-unfoldable pub nextCount : (subsampling : Bool) (step n count : ℕ) → ℕ
-nextCount s step n count = choose (s && eqb (n % 2) 0) count (count + step)
+-- the counter of row or column n + 1, from that of n: `step` more or, if subsampled and n is even, the same
+unfoldable pub nextCounter : (subsampling : Bool) (step n counter : ℕ) → ℕ
+nextCounter s step n counter = choose (s && eqb (n % 2) 0) counter (counter + step)
 
 -- the first pixel of the image
 abbrev pub firstPixel : CountedPixel
@@ -33,22 +33,23 @@ nextInRow s p = record {
   row = p .row;
   column = p .column + 1;
   chromaStart = p .chromaStart;
-  chromaColumn = nextCount s 1 (p .column) (p .chromaColumn);
+  chromaColumn = nextCounter s 1 (p .column) (p .chromaColumn);
 }
 
--- behind the last pixel of a row, the first of the next one
+-- the first pixel of the next row
 unfoldable pub nextRow : (subsampling : Bool) (width : ℕ) → CountedPixel → CountedPixel
 nextRow s width p = record {
   row = p .row + 1;
   column = 0;
-  chromaStart = nextCount s (chromaSide s width) (p .row) (p .chromaStart);
+  chromaStart = nextCounter s (chromaSide s width) (p .row) (p .chromaStart);
   chromaColumn = 0;
 }
 
+-- the next pixel in the order of the image
 unfoldable pub nextPixel : (subsampling : Bool) (width : ℕ) → CountedPixel → CountedPixel
 nextPixel s width p = choose (ltb (p .column + 1) width) (nextInRow s p) (nextRow s width p)
 
--- pixel n of the image, counted from 0
+-- pixel n of the image, from 0 on
 unfoldable pub countedPixel : (subsampling : Bool) (width n : ℕ) → CountedPixel
 countedPixel s width zero = firstPixel
 countedPixel s width (suc n) = nextPixel s width (countedPixel s width n)
@@ -64,7 +65,7 @@ pixelByIndex s width row column = record {
   chromaColumn = chromaIndex s column;
 }
 
--- what counting gives for the pixel at a row and a column
+-- what counting gives for the pixel at a row and a column: all of `pixelByIndex`; so the index of its sample, which lies within the chroma plane
 pub record FoundByCounting (s : Bool) (width height row column : ℕ) : Type 0 where
   pub pixel : countedPixel s width (row * width + column) ≡ pixelByIndex s width row column
   pub index : sampleIndex (countedPixel s width (row * width + column)) ≡ chromaIndex s row * chromaSide s width + chromaIndex s column
@@ -74,12 +75,12 @@ pub record FoundByCounting (s : Bool) (width height row column : ℕ) : Type 0 w
 abbrev pub ChromaIndexByCounting : Type 0
 ChromaIndexByCounting = (s : Bool) (width height row column : ℕ) → row < height → column < width → FoundByCounting s width height row column
 
--- ---- what the loops count
+-- ---- what the invariants of loops say of a counter
 
--- `count` is where the chroma row of a row starts: the count at its first pixel
-abbrev pub IsChromaStart : (subsampling : Bool) (width row count : ℕ) → Type 0
-IsChromaStart s width row count = countedPixel s width (row * width) .chromaStart ≡ count
+-- it is where the chroma row of a row starts: the one of the row's first pixel
+abbrev pub IsChromaStart : (subsampling : Bool) (width row counter : ℕ) → Type 0
+IsChromaStart s width row counter = countedPixel s width (row * width) .chromaStart ≡ counter
 
--- `count` is the chroma column of a column: the count there in each row of each picture that has this column
-abbrev pub IsChromaColumn : (subsampling : Bool) (column count : ℕ) → Type 0
-IsChromaColumn s column count = (width row : ℕ) → column < width → countedPixel s width (row * width + column) .chromaColumn ≡ count
+-- it is the chroma column of a column: the one of the pixel there, in each row of each picture that has this column
+abbrev pub IsChromaColumn : (subsampling : Bool) (column counter : ℕ) → Type 0
+IsChromaColumn s column counter = (width row : ℕ) → column < width → countedPixel s width (row * width + column) .chromaColumn ≡ counter

@@ -18,7 +18,7 @@ use Rattle.bitmap_format.specs.Planes.{PlaneAt, subsampled, chromaSide, firstPl
 use Rattle.bitmap_format.specs.Pixels.{PixelForm, bytesPerPixel, pixelBytes}
 use Rattle.bitmap_format.specs.Sizes.{sampleCount, sumOver, rowSize, imageSize}
 use Rattle.bitmap_format.specs.Image.{sample, chromaIndex, colourAt, concatUpTo, writeRows}
-use Rattle.bitmap_format.specs.Counting.{nextCount, IsChromaStart}
+use Rattle.bitmap_format.specs.Counting.{nextCounter, IsChromaStart}
 use Rattle.bitmap_format.proofs.Counting.{start-is, start-next}
 use Rattle.bitmap_format.proofs.Sizes.{chromaSide-max, colour-sum-sides, bytesPerPixel-max}
 use Rattle.bitmap_format.proofs.PixelAt.{place-below}
@@ -69,9 +69,9 @@ row-is form (AYCoCg level s) flagged planes alpha width height row step cw ch ch
     (third-is planes s width height row cw ch chroma ew eh ec (chromaIndex s column) i)) (suffix-at alpha (row * step) column i))
 
 -- the chroma row of the next row: t and cw are what the code has for s and the width of a chroma plane
-pub chroma-step : (s t : Bool) (width row cw chroma next : ℕ) → t ≡ s → cw ≡ chromaSide s width → IsChromaStart s width row chroma → next ≡ nextCount t cw row chroma
+pub chroma-step : (s t : Bool) (width row cw chroma next : ℕ) → t ≡ s → cw ≡ chromaSide s width → IsChromaStart s width row chroma → next ≡ nextCounter t cw row chroma
     → IsChromaStart s width (row + 1) next
-chroma-step s t width row cw chroma next et ew ec en = start-next s width row chroma ec ∙ (λ i. nextCount (sym et i) (sym ew i) row chroma) ∙ sym en
+chroma-step s t width row cw chroma next et ew ec en = start-next s width row chroma ec ∙ (λ i. nextCounter (sym et i) (sym ew i) row chroma) ∙ sym en
 
 -- ---- the room of a row
 

@@ -16,7 +16,7 @@ use Rattle.bitmap_format.specs.Planes.{chromaSide}
 use Rattle.bitmap_format.specs.Image.{chromaIndex, concatUpTo}
 use Rattle.bitmap_format.specs.Pixels.{threeBytes}
 use Rattle.bitmap_format.specs.Counting.{IsChromaColumn}
-use Rattle.bitmap_format.proofs.Counting.{count-stays, count-full, count-odd, column-is, column-first, column-next}
+use Rattle.bitmap_format.proofs.Counting.{counter-stays, counter-full, counter-odd, column-is, column-first, column-next}
 use Rattle.bitmap_format.proofs.Image.{length-concatUpTo}
 use Rattle.bitmap_rows.specs.Rows.{pixelAt}
 
@@ -95,12 +95,12 @@ module _ (size : ℕ) (d₀ : List ℕ) (f : ℕ → List ℕ) (sized : (i : ℕ
 
 -- not subsampled: the next column
 pub full-next : (column : ℕ) → IsChromaColumn false column column → IsChromaColumn false (column + 1) (column + 1)
-full-next column h width row below = column-next false column column h width row below ∙ count-full false 1 column column refl
+full-next column h width row below = column-next false column column h width row below ∙ counter-full false 1 column column refl
 
--- subsampled: `pair` is counted at an even column; the odd one behind it has the same count
+-- subsampled: `pair` is counted at an even column; the odd one behind it has the same counter
 pub pair-right : (pair : ℕ) → IsChromaColumn true (2 * pair) pair → IsChromaColumn true (2 * pair + 1) pair
 pair-right pair h width row below =
-    column-next true (2 * pair) pair h width row below ∙ count-stays true 1 (2 * pair) pair refl (omega arith)
+    column-next true (2 * pair) pair h width row below ∙ counter-stays true 1 (2 * pair) pair refl (omega arith)
 
 -- and the column behind both the next
 pub pair-next : (pair : ℕ) → IsChromaColumn true (2 * pair) pair → IsChromaColumn true (2 * (pair + 1)) (pair + 1)
@@ -114,7 +114,7 @@ pair-next pair h = rw (← behind) next
 
     next : IsChromaColumn true (2 * pair + 1 + 1) (pair + 1)
     next width row below =
-        column-next true (2 * pair + 1) pair (pair-right pair h) width row below ∙ count-odd true 1 (2 * pair + 1) pair odd
+        column-next true (2 * pair + 1) pair (pair-right pair h) width row below ∙ counter-odd true 1 (2 * pair + 1) pair odd
 
 pairs-counted : (pairs : ℕ) → IsChromaColumn true (2 * pairs) pairs
 pairs-counted zero = column-first true
@@ -127,15 +127,15 @@ last-counted width e =
     rw (← last) (pairs-counted (width / 2))
 
 -- a three-byte pixel with the chroma samples that are counted for its column
-pub aycocg-pixel : (flagged : Bool) (level : ℕ) (s : Bool) (y co cg : List ℕ) (column count : ℕ) (c : Rgb) → IsChromaColumn s column count
-    → c ≡ aycocgColour flagged level (getD y column 0) (getD co count 0) (getD cg count 0) → rgb24 c ≡ pixelAt threeBytes (AYCoCg level s) flagged y co cg [] column
-aycocg-pixel flagged level s y co cg column count c h ec =
-    let e = column-is s column count h in
+pub aycocg-pixel : (flagged : Bool) (level : ℕ) (s : Bool) (y co cg : List ℕ) (column counter : ℕ) (c : Rgb) → IsChromaColumn s column counter
+    → c ≡ aycocgColour flagged level (getD y column 0) (getD co counter 0) (getD cg counter 0) → rgb24 c ≡ pixelAt threeBytes (AYCoCg level s) flagged y co cg [] column
+aycocg-pixel flagged level s y co cg column counter c h ec =
+    let e = column-is s column counter h in
     ap rgb24 (ec ∙ (λ i. aycocgColour flagged level (getD y column 0) (getD co (e i) 0) (getD cg (e i) 0)))
 
 -- the chroma sample that is counted for a column
-pub sample-at : (samples : List ℕ) (column count : ℕ) → IsChromaColumn true column count → getD samples count 0 ∷ [] ≡ getD samples (chromaIndex true column) 0 ∷ []
-sample-at samples column count h = ap (λ (n : ℕ). getD samples n 0 ∷ []) (column-is true column count h)
+pub sample-at : (samples : List ℕ) (column counter : ℕ) → IsChromaColumn true column counter → getD samples counter 0 ∷ [] ≡ getD samples (chromaIndex true column) 0 ∷ []
+sample-at samples column counter h = ap (λ (n : ℕ). getD samples n 0 ∷ []) (column-is true column counter h)
 
 -- the chroma samples that a row needs
 pub chroma-subsampled : (s : Bool) (width n : ℕ) → s ≡ true → chromaSide s width ≤ n → (width + 1) / 2 ≤ n

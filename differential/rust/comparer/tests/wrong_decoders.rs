@@ -196,6 +196,26 @@ wrong!(chroma_rows_as_long_as_the_pictures, "iu 2 3 0 0 1:1 00*8,0100 - EE*18", 
     }
 });
 
+// Chroma samples found by counting. A counter that runs too far is kept within the plane.
+
+wrong!(the_last_column_of_an_odd_width_from_the_next_chroma_row, "iu 1 3 0 0 1:1 00*5,0100 - EE*9", {
+    fn chroma_index(call: &Call, row: usize, column: usize) -> usize {
+        let index = Right::chroma_index(call, row, column);
+        let (across, down) = Self::chroma_sides(call);
+        let last = Self::is_subsampled(call.form) && call.width % 2 == 1 && column + 1 == call.width;
+        (index + if last { across } else { 0 }).min(across * down - 1)
+    }
+});
+
+wrong!(the_chroma_column_not_put_back_at_the_start_of_a_row, "iu 3 2 0 0 1:1 00*8,0100 - EE*18", {
+    fn chroma_index(call: &Call, row: usize, column: usize) -> usize {
+        let index = Right::chroma_index(call, row, column);
+        let (across, down) = Self::chroma_sides(call);
+        let passed = if Self::is_subsampled(call.form) { row * (call.width / 2) } else { 0 };
+        (index + passed).min(across * down - 1)
+    }
+});
+
 wrong!(argb_subsampled_by_the_flag, "iu 2 1 0 0 argb:0:1 00*4 - -", {
     fn is_subsampled(form: Form) -> bool {
         form.subsampled

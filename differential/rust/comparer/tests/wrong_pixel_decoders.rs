@@ -498,6 +498,33 @@ wrong!(chroma_columns_not_halved, "xu 2 1 0 0 1:1 bgra 00000100 - EE*8", {
     }
 });
 
+wrong!(chroma_rows_not_halved, "xu 1 2 0 0 1:1 bgra 00000100 - EE*8", {
+    fn chroma_index(call: &Call, row: usize, column: usize) -> usize {
+        let (across, _) = Self::chroma_sides(call);
+        row * across + (column >> u32::from(Self::is_subsampled(call.form)))
+    }
+});
+
+// Chroma samples found by counting. A counter that runs too far is kept within the plane.
+
+wrong!(the_last_column_of_an_odd_width_from_the_next_chroma_row, "xu 1 3 0 0 1:1 bgra 00*5,0100 - EE*12", {
+    fn chroma_index(call: &Call, row: usize, column: usize) -> usize {
+        let index = Right::chroma_index(call, row, column);
+        let (across, down) = Self::chroma_sides(call);
+        let last = Self::is_subsampled(call.form) && call.width % 2 == 1 && column + 1 == call.width;
+        (index + if last { across } else { 0 }).min(across * down - 1)
+    }
+});
+
+wrong!(the_chroma_column_not_put_back_at_the_start_of_a_row, "xu 3 2 0 0 1:1 bgra 00*8,0100 - EE*24", {
+    fn chroma_index(call: &Call, row: usize, column: usize) -> usize {
+        let index = Right::chroma_index(call, row, column);
+        let (across, down) = Self::chroma_sides(call);
+        let passed = if Self::is_subsampled(call.form) { row * (call.width / 2) } else { 0 };
+        (index + passed).min(across * down - 1)
+    }
+});
+
 /// Random rows are seldom so long.
 macro_rules! wrong_in_long_rows {
     ($name:ident, $smallest:literal, { $($other:tt)* }) => {
