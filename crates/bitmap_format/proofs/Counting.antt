@@ -1,7 +1,7 @@
 -- The chroma samples found by counting are those of `chromaIndex`, for every pixel; and what the loops need of it: where the chroma row of a row
 -- starts, and the chroma column of a column, each from the one before.
 use Prim.Native.Nat.{ℕ, zero, suc, _+_, _-_, _*_, _/_, _%_, _<_}
-use mathlib.Core.Bool.{Bool, true, false}
+use mathlib.Core.Bool.{Bool, true, false, _&&_}
 use mathlib.Core.Path.{_≡_, refl, sym, ap, _∙_}
 use native.Mathlib.Nat.{zero-mul, suc-mul, mul-zero, mul-one}
 use native.Mathlib.Numerals.{add-one}
@@ -128,21 +128,36 @@ unfolding countedPixel chromaSide
 no-width true row = sym (mul-zero (chromaIndex true row))
 no-width false row = sym (mul-zero (chromaIndex false row))
 
-pub start-is : (s : Bool) (width row counter : ℕ) → IsChromaStart s width row counter → counter ≡ chromaIndex s row * chromaSide s width
-start-is s zero row counter e = sym e ∙ ap (λ (n : ℕ). countedPixel s 0 n .chromaStart) (mul-zero row) ∙ no-width s row
-start-is s (suc w) row counter e = sym e ∙ ap (λ (p : CountedPixel). p .chromaStart) (row-counted s (suc w) row (omega arith))
+start-counted : (s : Bool) (width row : ℕ) → countedPixel s width (row * width) .chromaStart ≡ chromaIndex s row * chromaSide s width
+start-counted s zero row = ap (λ (n : ℕ). countedPixel s 0 n .chromaStart) (mul-zero row) ∙ no-width s row
+start-counted s (suc w) row = ap (λ (p : CountedPixel). p .chromaStart) (row-counted s (suc w) row (omega arith))
 
-start-counted : (s : Bool) (width row : ℕ) → IsChromaStart s width row (chromaIndex s row * chromaSide s width)
-start-counted s width row = start-is s width row (countedPixel s width (row * width) .chromaStart) refl
+pub start-is : (s : Bool) (width offset row counter : ℕ) → IsChromaStart s width offset row counter → counter ≡ offset + chromaIndex s row * chromaSide s width
+start-is s width offset row counter e = sym e ∙ ap (λ (k : ℕ). offset + k) (start-counted s width row)
 
-pub start-first : (s : Bool) (width : ℕ) → IsChromaStart s width 0 0
-start-first s width = start-counted s width 0 ∙ counter-start s (chromaSide s width)
+pub start-first : (s : Bool) (width offset : ℕ) → IsChromaStart s width offset 0 offset
+start-first s width offset =
+    let none = start-counted s width 0 ∙ counter-start s (chromaSide s width) in
+    omega (arith, none)
 
-pub start-next : (s : Bool) (width row counter : ℕ) → IsChromaStart s width row counter → IsChromaStart s width (row + 1) (nextCounter s (chromaSide s width) row counter)
-start-next s width row counter e =
-    start-counted s width (row + 1)
+-- both counters with an offset before them
+counter-offset : (s : Bool) (offset step n counter : ℕ) → offset + nextCounter s step n counter ≡ nextCounter s step n (offset + counter)
+unfolding nextCounter
+counter-offset s offset step n counter = go (s && eqb (n % 2) 0)
+  where
+    go : (t : Bool) → offset + choose t counter (counter + step) ≡ choose t (offset + counter) (offset + counter + step)
+    go true = refl
+    go false = omega arith
+
+pub start-next : (s : Bool) (width offset row counter : ℕ) → IsChromaStart s width offset row counter
+    → IsChromaStart s width offset (row + 1) (nextCounter s (chromaSide s width) row counter)
+start-next s width offset row counter e =
+    ap (λ (k : ℕ). offset + k)
+    (start-counted s width (row + 1)
     ∙ sym (counter-step s (chromaSide s width) row)
-    ∙ ap (nextCounter s (chromaSide s width) row) (sym (start-is s width row counter e))
+    ∙ ap (nextCounter s (chromaSide s width) row) (sym (start-counted s width row)))
+    ∙ counter-offset s offset (chromaSide s width) row (countedPixel s width (row * width) .chromaStart)
+    ∙ ap (nextCounter s (chromaSide s width) row) e
 
 -- ---- the counter of the loops over columns
 

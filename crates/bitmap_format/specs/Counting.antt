@@ -77,9 +77,9 @@ ChromaIndexByCounting = (s : Bool) (width height row column : ℕ) → row < hei
 
 -- ---- what the invariants of loops say of a counter
 
--- it is where the chroma row of a row starts: the one of the row's first pixel
-abbrev pub IsChromaStart : (subsampling : Bool) (width row counter : ℕ) → Type 0
-IsChromaStart s width row counter = countedPixel s width (row * width) .chromaStart ≡ counter
+-- it is where the chroma row of a row starts, in a plane that starts at `offset`: the one of the row's first pixel
+abbrev pub IsChromaStart : (subsampling : Bool) (width offset row counter : ℕ) → Type 0
+IsChromaStart s width offset row counter = offset + countedPixel s width (row * width) .chromaStart ≡ counter
 
 -- it is the chroma column of a column: the one of the pixel there, in each row of each picture that has this column
 abbrev pub IsChromaColumn : (subsampling : Bool) (column counter : ℕ) → Type 0

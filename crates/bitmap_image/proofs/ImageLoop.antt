@@ -34,44 +34,52 @@ suffix-sample : (planes : List ℕ) (from : ℕ) (p : PlaneAt) (row : ℕ) → f
 unfolding sample
 suffix-sample planes from p row e column = suffix-at planes from column ∙ ap (λ (k : ℕ). getD planes (k + column) 0) e
 
--- the rows of the planes for a row of the picture: cw and ch are the sides of a chroma plane, the chroma row starts at `chroma`
-module _ (planes : List ℕ) (s : Bool) (width height row cw ch chroma : ℕ) (ew : cw ≡ chromaSide s width) (eh : ch ≡ chromaSide s height) (ec : IsChromaStart s width row chroma) where
+-- the rows of the planes for a row of the picture: cw and ch are the sides of a chroma plane, the chroma row of the second plane starts at `second`
+module _ (planes : List ℕ) (s : Bool) (width height row cw ch second : ℕ) (ew : cw ≡ chromaSide s width) (eh : ch ≡ chromaSide s height) (ec : IsChromaStart s width (width * height) row second) where
   first-is : (column : ℕ) → getD (suffix planes (row * width)) column 0 ≡ sample planes (firstPlane width height) row column
   unfolding firstPlane
   first-is = suffix-sample planes (row * width) (firstPlane width height) row (sym (zero-add (row * width)))
 
-  second-is : (column : ℕ) → getD (suffix planes (width * height + chroma)) column 0 ≡ sample planes (secondPlane s width height) (chromaIndex s row) column
-  unfolding secondPlane
-  second-is = suffix-sample planes (width * height + chroma) (secondPlane s width height) (chromaIndex s row) (λ i. width * height + start-is s width row chroma ec i)
+  second-at : second ≡ width * height + chromaIndex s row * chromaSide s width
+  second-at = start-is s width (width * height) row second ec
 
-  third-is : (column : ℕ) → getD (suffix planes (width * height + cw * ch + chroma)) column 0 ≡ sample planes (thirdPlane s width height) (chromaIndex s row) column
+  third-at : second + cw * ch ≡ width * height + chromaSide s width * chromaSide s height + chromaIndex s row * chromaSide s width
+  third-at =
+      let size : cw * ch ≡ chromaSide s width * chromaSide s height = λ i. ew i * eh i in
+      omega (arith, second-at, size)
+
+  second-is : (column : ℕ) → getD (suffix planes second) column 0 ≡ sample planes (secondPlane s width height) (chromaIndex s row) column
+  unfolding secondPlane
+  second-is = suffix-sample planes second (secondPlane s width height) (chromaIndex s row) second-at
+
+  third-is : (column : ℕ) → getD (suffix planes (second + cw * ch)) column 0 ≡ sample planes (thirdPlane s width height) (chromaIndex s row) column
   unfolding thirdPlane
-  third-is = suffix-sample planes (width * height + cw * ch + chroma) (thirdPlane s width height) (chromaIndex s row) (λ i. width * height + ew i * eh i + start-is s width row chroma ec i)
+  third-is = suffix-sample planes (second + cw * ch) (thirdPlane s width height) (chromaIndex s row) third-at
 
 -- a row of pixels
-pub row-is : (form : PixelForm) (d : ColorPlaneDefinition) (flagged : Bool) (planes alpha : List ℕ) (width height row step cw ch chroma : ℕ) → cw ≡ chromaSide (subsampled d) width
-    → ch ≡ chromaSide (subsampled d) height → IsChromaStart (subsampled d) width row chroma
-    → rowPixels form d flagged (suffix planes (row * width)) (suffix planes (width * height + chroma)) (suffix planes (width * height + cw * ch + chroma)) (suffix alpha (row * step)) width
+pub row-is : (form : PixelForm) (d : ColorPlaneDefinition) (flagged : Bool) (planes alpha : List ℕ) (width height row step cw ch second : ℕ) → cw ≡ chromaSide (subsampled d) width
+    → ch ≡ chromaSide (subsampled d) height → IsChromaStart (subsampled d) width (width * height) row second
+    → rowPixels form d flagged (suffix planes (row * width)) (suffix planes second) (suffix planes (second + cw * ch)) (suffix alpha (row * step)) width
     ≡ rowWith form d flagged width height planes alpha step row
 unfolding colourAt chromaIndex
-row-is form Argb flagged planes alpha width height row step cw ch chroma ew eh ec =
+row-is form Argb flagged planes alpha width height row step cw ch second ew eh ec =
     λ i. concatUpTo width
     (λ (column : ℕ).
     pixelBytes form
-    (rgb (first-is planes false width height row cw ch chroma ew eh ec column i) (second-is planes false width height row cw ch chroma ew eh ec column i)
-    (third-is planes false width height row cw ch chroma ew eh ec column i)) (suffix-at alpha (row * step) column i))
-row-is form (AYCoCg level s) flagged planes alpha width height row step cw ch chroma ew eh ec =
+    (rgb (first-is planes false width height row cw ch second ew eh ec column i) (second-is planes false width height row cw ch second ew eh ec column i)
+    (third-is planes false width height row cw ch second ew eh ec column i)) (suffix-at alpha (row * step) column i))
+row-is form (AYCoCg level s) flagged planes alpha width height row step cw ch second ew eh ec =
     λ i. concatUpTo width
     (λ (column : ℕ).
     pixelBytes form
-    (aycocgColour flagged level (first-is planes s width height row cw ch chroma ew eh ec column i)
-    (second-is planes s width height row cw ch chroma ew eh ec (chromaIndex s column) i)
-    (third-is planes s width height row cw ch chroma ew eh ec (chromaIndex s column) i)) (suffix-at alpha (row * step) column i))
+    (aycocgColour flagged level (first-is planes s width height row cw ch second ew eh ec column i)
+    (second-is planes s width height row cw ch second ew eh ec (chromaIndex s column) i)
+    (third-is planes s width height row cw ch second ew eh ec (chromaIndex s column) i)) (suffix-at alpha (row * step) column i))
 
 -- the chroma row of the next row: t and cw are what the code has for s and the width of a chroma plane
-pub chroma-step : (s t : Bool) (width row cw chroma next : ℕ) → t ≡ s → cw ≡ chromaSide s width → IsChromaStart s width row chroma → next ≡ nextCounter t cw row chroma
-    → IsChromaStart s width (row + 1) next
-chroma-step s t width row cw chroma next et ew ec en = start-next s width row chroma ec ∙ (λ i. nextCounter (sym et i) (sym ew i) row chroma) ∙ sym en
+pub chroma-step : (s t : Bool) (width offset row cw start next : ℕ) → t ≡ s → cw ≡ chromaSide s width → IsChromaStart s width offset row start → next ≡ nextCounter t cw row start
+    → IsChromaStart s width offset (row + 1) next
+chroma-step s t width offset row cw start next et ew ec en = start-next s width offset row start ec ∙ (λ i. nextCounter (sym et i) (sym ew i) row start) ∙ sym en
 
 -- ---- the room of a row
 
@@ -86,10 +94,10 @@ pub record Areas (width height cw ch len : ℕ) : Type 0 where
   pub chroma-most : cw * ch ≤ 67108864
   pub all : width * height + 2 * (cw * ch) ≤ len
 
--- and of a row, whose chroma row starts at `chroma`
-pub record Rooms (width height row cw ch chroma len : ℕ) : Type 0 where
+-- and of a row, whose chroma row starts at `second` in the second plane
+pub record Rooms (width height row cw ch second len : ℕ) : Type 0 where
   pub luma-row : row * width + width ≤ width * height
-  pub chroma-row : chroma + cw ≤ cw * ch
+  pub chroma-row : second + cw ≤ width * height + cw * ch
   pub full-most : width * height ≤ 67108864
   pub chroma-most : cw * ch ≤ 67108864
   pub all : width * height + 2 * (cw * ch) ≤ len
@@ -103,13 +111,13 @@ module _ (s : Bool) (width height cw ch len : ℕ) (lw : width ≤ 8192) (lh : h
     all = rw (ew, eh) (rw (colour-sum-sides false s width height) at l);
   }
 
-  pub rooms : (row chroma : ℕ) → row < height → IsChromaStart s width row chroma → Rooms width height row cw ch chroma len
-  rooms row chroma lr ec =
+  pub rooms : (row second : ℕ) → row < height → IsChromaStart s width (width * height) row second → Rooms width height row cw ch second len
+  rooms row second lr ec =
       let below : chromaIndex s row < ch = rw eh (place-below s row height lr) in
-      let start : chroma ≡ chromaIndex s row * cw = start-is s width row chroma ec ∙ ap (λ (k : ℕ). chromaIndex s row * k) (sym ew) in
+      let start : second ≡ width * height + chromaIndex s row * cw = start-is s width (width * height) row second ec ∙ ap (λ (k : ℕ). width * height + chromaIndex s row * k) (sym ew) in
       record {
         luma-row = row-within row width height lr;
-        chroma-row = rw start (row-within (chromaIndex s row) cw ch below);
+        chroma-row = omega (arith, start, row-within (chromaIndex s row) cw ch below);
         full-most = areas .full-most;
         chroma-most = areas .chroma-most;
         all = areas .all;

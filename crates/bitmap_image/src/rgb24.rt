@@ -28,23 +28,22 @@ pub(crate) fn write_rgb24_rows(
     ensures { λ _. ⌜ now (image .exit) ≡ writeRows (rowSize threeBytes width) (imageRow threeBytes definition flagged width height (now (planes .entry)) []) height (now (image .entry)) ⌝ }
 {
     let subsampling = has_subsampled_chroma(definition);
-    let second = width * height;
     let chroma_width = chroma_side(subsampling, width);
-    let third = second + chroma_width * chroma_side(subsampling, height);
+    let chroma_size = chroma_width * chroma_side(subsampling, height);
     let size = 3 * width;
     let mut row = 0;
-    let mut chroma = 0;
+    let mut second = width * height;
     while row < height {
         write_rgb24_row(
             definition,
             flagged,
             &planes[row * width..],
-            &planes[second + chroma..],
-            &planes[third + chroma..],
+            &planes[second..],
+            &planes[second + chroma_size..],
             &mut image[row * size..],
             width,
         );
-        chroma = next_chroma_start(subsampling, chroma_width, row, chroma);
+        second = next_chroma_start(subsampling, chroma_width, row, second);
         row = row + 1;
     }
 }

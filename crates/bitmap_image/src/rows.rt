@@ -84,27 +84,26 @@ pub(crate) fn write_pixel_rows(
     ensures { λ _. ⌜ now (image .exit) ≡ writeRows (rowSize (fourBytes (channelOffsets layout)) width) (rowWith (fourBytes (channelOffsets layout)) definition flagged width height (now (planes .entry)) (now (alpha .entry)) step) height (now (image .entry)) ⌝ }
 {
     let subsampling = has_subsampled_chroma(definition);
-    let second = width * height;
     let chroma_width = chroma_side(subsampling, width);
-    let third = second + chroma_width * chroma_side(subsampling, height);
+    let chroma_size = chroma_width * chroma_side(subsampling, height);
     let size = 4 * width;
     let mut row = 0;
-    let mut chroma = 0;
+    let mut second = width * height;
     while row < height {
         write_row(
             layout,
             definition,
             flagged,
             &planes[row * width..],
-            &planes[second + chroma..],
-            &planes[third + chroma..],
+            &planes[second..],
+            &planes[second + chroma_size..],
             &alpha[row * step..],
             &mut image[row * size..],
             width,
             co,
             cg,
         );
-        chroma = next_chroma_start(subsampling, chroma_width, row, chroma);
+        second = next_chroma_start(subsampling, chroma_width, row, second);
         row = row + 1;
     }
 }

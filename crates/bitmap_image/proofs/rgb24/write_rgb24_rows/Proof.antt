@@ -21,11 +21,11 @@ use Rattle.bitmap_image.proofs.rgb24.write_rgb24_rows.Statement.{statem
 use Rattle.bitmap_image.proofs.rgb24.write_rgb24_rows.Tie as tie
 
 abbrev Inv-loop : tie.InvT-loop
-Inv-loop definition flagged planes image₀ width height subsampling second chroma-width third size row₀ chroma₀ image row chroma =
-    (row ≤ height) × IsChromaStart (subsampled definition) width row chroma × ImageInvariant image₀ image row size (imageRow threeBytes definition flagged width height planes [])
+Inv-loop definition flagged planes image₀ width height subsampling chroma-width chroma-size size row₀ second₀ image row second =
+    (row ≤ height) × IsChromaStart (subsampled definition) width (width * height) row second × ImageInvariant image₀ image row size (imageRow threeBytes definition flagged width height planes [])
 
 abbrev μ-loop : tie.MeasureT-loop
-μ-loop definition flagged planes image₀ width height subsampling second chroma-width third size row₀ chroma₀ image row chroma = height - row
+μ-loop definition flagged planes image₀ width height subsampling chroma-width chroma-size size row₀ second₀ image row second = height - row
 
 -- the sides of a chroma plane
 cw-is : (c : tie.After-chroma-side2 Inv-loop μ-loop) → c .before .chroma-side .result ≡ chromaSide (subsampled (c .before .before .before .before .before .args .definition)) (c .before .before .before .before .before .args .width)
@@ -41,7 +41,7 @@ sizes c =
     areas (subsampled (s .args .definition)) (s .args .width) (s .args .height) _ _ _ (s .pre .1) (s .pre .2) (cw-is c) (ch-is c) (s .pre .3)
 
 room : (c : tie.In-loop Inv-loop μ-loop)
-    → Rooms (c .before .before .before .before .before .before .before .args .width) (c .before .before .before .before .before .before .before .args .height) (c .before .loop .row) (c .before .before .before .chroma-side .result) (c .before .before .chroma-side2 .result) (c .before .loop .chroma) (length (c .before .before .before .before .before .before .before .args .planes .now))
+    → Rooms (c .before .before .before .before .before .before .before .args .width) (c .before .before .before .before .before .before .before .args .height) (c .before .loop .row) (c .before .before .before .chroma-side .result) (c .before .before .chroma-side2 .result) (c .before .loop .second) (length (c .before .before .before .before .before .before .before .args .planes .now))
 room c =
     let s = c .before .before .before .before .before .before .before in
     rooms (subsampled (s .args .definition)) (s .args .width) (s .args .height) _ _ _ (s .pre .1) (s .pre .2) (cw-is (c .before .before)) (ch-is (c .before .before)) (s .pre .3) (c .before .loop .row) _ (c .loop-test .taken) (c .before .loop .inv .1)
@@ -56,26 +56,23 @@ fits c =
 has-subsampled-chroma-requires : tie.Need-has-subsampled-chroma-requires Inv-loop μ-loop
 has-subsampled-chroma-requires c κs = search needs
 
-mul-second : tie.Need-mul-second Inv-loop μ-loop
-mul-second c = let s = c .before .before .before in omega (arith, area-max (s .args .width) (s .args .height) (s .pre .1) (s .pre .2))
-
 chroma-side-requires : tie.Need-chroma-side-requires Inv-loop μ-loop
 chroma-side-requires c κs = search needs
 
 chroma-side-requires-2 : tie.Need-chroma-side-requires-2 Inv-loop μ-loop
 chroma-side-requires-2 c κs = search needs
 
-mul-third : tie.Need-mul-third Inv-loop μ-loop
-mul-third c = omega (arith, sizes c)
-
-add-third : tie.Need-add-third Inv-loop μ-loop
-add-third c = omega (arith, sizes c)
+mul-chroma-size : tie.Need-mul-chroma-size Inv-loop μ-loop
+mul-chroma-size c = omega (arith, sizes c)
 
 mul-size : tie.Need-mul-size Inv-loop μ-loop
 mul-size c = let s = c .before .before .before .before .before in omega (arith, s .pre .1)
 
+mul-second : tie.Need-mul-second Inv-loop μ-loop
+mul-second c = let s = c .before .before .before .before .before in omega (arith, area-max (s .args .width) (s .args .height) (s .pre .1) (s .pre .2))
+
 loop-holds : tie.Need-loop-holds Inv-loop μ-loop
-loop-holds c = (omega arith, start-first _ _, image-start _ _ _)
+loop-holds c = (omega arith, start-first _ _ _, image-start _ _ _)
 
 mul-write-rgb24-row : tie.Need-mul-write-rgb24-row Inv-loop μ-loop
 mul-write-rgb24-row c = omega (arith, room c)
@@ -89,9 +86,6 @@ part-write-rgb24-row-start c = omega (arith, room c)
 part-write-rgb24-row-end : tie.Need-part-write-rgb24-row-end Inv-loop μ-loop
 part-write-rgb24-row-end c = omega (arith, room c)
 
-add-write-rgb24-row : tie.Need-add-write-rgb24-row Inv-loop μ-loop
-add-write-rgb24-row c = omega (arith, room (c .before))
-
 sub-write-rgb24-row-2 : tie.Need-sub-write-rgb24-row-2 Inv-loop μ-loop
 sub-write-rgb24-row-2 c = omega (arith, room (c .before))
 
@@ -101,8 +95,8 @@ part-write-rgb24-row-start-2 c = omega (arith, room (c .before))
 part-write-rgb24-row-end-2 : tie.Need-part-write-rgb24-row-end-2 Inv-loop μ-loop
 part-write-rgb24-row-end-2 c = omega (arith, room (c .before))
 
-add-write-rgb24-row-2 : tie.Need-add-write-rgb24-row-2 Inv-loop μ-loop
-add-write-rgb24-row-2 c = omega (arith, room (c .before .before))
+add-write-rgb24-row : tie.Need-add-write-rgb24-row Inv-loop μ-loop
+add-write-rgb24-row c = omega (arith, room (c .before .before))
 
 sub-write-rgb24-row-3 : tie.Need-sub-write-rgb24-row-3 Inv-loop μ-loop
 sub-write-rgb24-row-3 c = omega (arith, room (c .before .before))
@@ -146,20 +140,19 @@ loop-again c =
     let w = c .before .before .before .write-rgb24-row in
     let cw = i .before .before .before .chroma-side .result in
     let ch = i .before .before .chroma-side2 .result in
-    let chroma = l .chroma in
-    let second = a .width * a .height in
+    let second = l .second in
     let third = second + cw * ch in
     let columns = cw-is (i .before .before) in
     let r = room i in
-    let written = row-written threeBytes (a .definition) (a .flagged) (suffix (a .planes .now) (l .row * a .width)) (suffix (a .planes .now) (second + chroma)) (suffix (a .planes .now) (third + chroma)) [] (a .width) (suffix (l .image) (l .row * (3 * a .width))) (s .pre .0)
+    let written = row-written threeBytes (a .definition) (a .flagged) (suffix (a .planes .now) (l .row * a .width)) (suffix (a .planes .now) second) (suffix (a .planes .now) third) [] (a .width) (suffix (l .image) (l .row * (3 * a .width))) (s .pre .0)
     (suffix-room (a .planes .now) (l .row * a .width) (a .width) (omega (arith, r)))
-    (rw (← columns) (suffix-room (a .planes .now) (second + chroma) cw (omega (arith, r))))
-    (rw (← columns) (suffix-room (a .planes .now) (third + chroma) cw (omega (arith, r))))
+    (rw (← columns) (suffix-room (a .planes .now) second cw (omega (arith, r))))
+    (rw (← columns) (suffix-room (a .planes .now) third cw (omega (arith, r))))
     (omega arith) (suffix-room (l .image) (l .row * (3 * a .width)) (3 * a .width) (fits i .fits)) in (
       omega arith,
-      chroma-step _ _ (a .width) (l .row) cw chroma _ (i .before .before .before .before .has-subsampled-chroma .ensures) columns (l .inv .1) (c .next-chroma-start .ensures),
+      chroma-step _ _ (a .width) (a .width * a .height) (l .row) cw second _ (i .before .before .before .before .has-subsampled-chroma .ensures) columns (l .inv .1) (c .next-chroma-start .ensures),
       image-step _ (l .image) _ _ (l .row) (3 * a .width) _ (l .inv .2) (w .ensures ∙ written)
-          (row-is threeBytes (a .definition) (a .flagged) (a .planes .now) [] (a .width) (a .height) (l .row) 0 cw ch chroma columns (ch-is (i .before .before)) (l .inv .1)
+          (row-is threeBytes (a .definition) (a .flagged) (a .planes .now) [] (a .width) (a .height) (l .row) 0 cw ch second columns (ch-is (i .before .before)) (l .inv .1)
           ∙ three-byte-row-is (a .definition) (a .flagged) (a .width) (a .height) (a .planes .now) (l .row)) (w .kept .1 .1 .1 .1 .1 .0),
     )
 
@@ -180,22 +173,20 @@ write-rgb24-rows-spec =
     Inv-loop
     μ-loop
     has-subsampled-chroma-requires
-    mul-second
     chroma-side-requires
     chroma-side-requires-2
-    mul-third
-    add-third
+    mul-chroma-size
     mul-size
+    mul-second
     loop-holds
     mul-write-rgb24-row
     sub-write-rgb24-row
     part-write-rgb24-row-start
     part-write-rgb24-row-end
-    add-write-rgb24-row
     sub-write-rgb24-row-2
     part-write-rgb24-row-start-2
     part-write-rgb24-row-end-2
-    add-write-rgb24-row-2
+    add-write-rgb24-row
     sub-write-rgb24-row-3
     part-write-rgb24-row-start-3
     part-write-rgb24-row-end-3

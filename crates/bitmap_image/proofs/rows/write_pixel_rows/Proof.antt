@@ -20,11 +20,11 @@ use Rattle.bitmap_image.proofs.rows.write_pixel_rows.Statement.{stateme
 use Rattle.bitmap_image.proofs.rows.write_pixel_rows.Tie as tie
 
 abbrev Inv-loop : tie.InvT-loop
-Inv-loop layout definition flagged planes alpha step image₀ width height co₀ cg₀ subsampling second chroma-width third size row₀ chroma₀ image co cg row chroma =
-    (row ≤ height) × IsChromaStart (subsampled definition) width row chroma × (length co ≡ length co₀) × (length cg ≡ length cg₀) × ImageInvariant image₀ image row size (rowWith (fourBytes (channelOffsets layout)) definition flagged width height planes alpha step)
+Inv-loop layout definition flagged planes alpha step image₀ width height co₀ cg₀ subsampling chroma-width chroma-size size row₀ second₀ image co cg row second =
+    (row ≤ height) × IsChromaStart (subsampled definition) width (width * height) row second × (length co ≡ length co₀) × (length cg ≡ length cg₀) × ImageInvariant image₀ image row size (rowWith (fourBytes (channelOffsets layout)) definition flagged width height planes alpha step)
 
 abbrev μ-loop : tie.MeasureT-loop
-μ-loop layout definition flagged planes alpha step image₀ width height co₀ cg₀ subsampling second chroma-width third size row₀ chroma₀ image co cg row chroma = height - row
+μ-loop layout definition flagged planes alpha step image₀ width height co₀ cg₀ subsampling chroma-width chroma-size size row₀ second₀ image co cg row second = height - row
 
 -- the sides of a chroma plane
 cw-is : (c : tie.After-chroma-side2 Inv-loop μ-loop) → c .before .chroma-side .result ≡ chromaSide (subsampled (c .before .before .before .before .before .before .before .before .args .definition)) (c .before .before .before .before .before .before .before .before .args .width)
@@ -40,7 +40,7 @@ sizes c =
     areas (subsampled (s .args .definition)) (s .args .width) (s .args .height) _ _ _ (s .pre .1) (s .pre .2) (cw-is c) (ch-is c) (s .pre .3)
 
 room : (c : tie.In-loop Inv-loop μ-loop)
-    → Rooms (c .before .before .before .before .before .before .before .before .before .before .args .width) (c .before .before .before .before .before .before .before .before .before .before .args .height) (c .before .loop .row) (c .before .before .before .chroma-side .result) (c .before .before .chroma-side2 .result) (c .before .loop .chroma) (length (c .before .before .before .before .before .before .before .before .before .before .args .planes .now))
+    → Rooms (c .before .before .before .before .before .before .before .before .before .before .args .width) (c .before .before .before .before .before .before .before .before .before .before .args .height) (c .before .loop .row) (c .before .before .before .chroma-side .result) (c .before .before .chroma-side2 .result) (c .before .loop .second) (length (c .before .before .before .before .before .before .before .before .before .before .args .planes .now))
 room c =
     let s = c .before .before .before .before .before .before .before .before .before .before in
     rooms (subsampled (s .args .definition)) (s .args .width) (s .args .height) _ _ _ (s .pre .1) (s .pre .2) (cw-is (c .before .before)) (ch-is (c .before .before)) (s .pre .3) (c .before .loop .row) _ (c .loop-test .taken) (c .before .loop .inv .1)
@@ -61,26 +61,23 @@ fits c =
 has-subsampled-chroma-requires : tie.Need-has-subsampled-chroma-requires Inv-loop μ-loop
 has-subsampled-chroma-requires c κs = search needs
 
-mul-second : tie.Need-mul-second Inv-loop μ-loop
-mul-second c = let s = c .before .before .before .before .before .before in omega (arith, area-max (s .args .width) (s .args .height) (s .pre .1) (s .pre .2))
-
 chroma-side-requires : tie.Need-chroma-side-requires Inv-loop μ-loop
 chroma-side-requires c κs = search needs
 
 chroma-side-requires-2 : tie.Need-chroma-side-requires-2 Inv-loop μ-loop
 chroma-side-requires-2 c κs = search needs
 
-mul-third : tie.Need-mul-third Inv-loop μ-loop
-mul-third c = omega (arith, sizes c)
-
-add-third : tie.Need-add-third Inv-loop μ-loop
-add-third c = omega (arith, sizes c)
+mul-chroma-size : tie.Need-mul-chroma-size Inv-loop μ-loop
+mul-chroma-size c = omega (arith, sizes c)
 
 mul-size : tie.Need-mul-size Inv-loop μ-loop
 mul-size c = let s = c .before .before .before .before .before .before .before .before in omega (arith, s .pre .1)
 
+mul-second : tie.Need-mul-second Inv-loop μ-loop
+mul-second c = let s = c .before .before .before .before .before .before .before .before in omega (arith, area-max (s .args .width) (s .args .height) (s .pre .1) (s .pre .2))
+
 loop-holds : tie.Need-loop-holds Inv-loop μ-loop
-loop-holds c = (omega arith, start-first _ _, refl, refl, image-start _ _ _)
+loop-holds c = (omega arith, start-first _ _ _, refl, refl, image-start _ _ _)
 
 mul-write-row : tie.Need-mul-write-row Inv-loop μ-loop
 mul-write-row c = omega (arith, room c)
@@ -94,9 +91,6 @@ part-write-row-start c = omega (arith, room c)
 part-write-row-end : tie.Need-part-write-row-end Inv-loop μ-loop
 part-write-row-end c = omega (arith, room c)
 
-add-write-row : tie.Need-add-write-row Inv-loop μ-loop
-add-write-row c = omega (arith, room (c .before))
-
 sub-write-row-2 : tie.Need-sub-write-row-2 Inv-loop μ-loop
 sub-write-row-2 c = omega (arith, room (c .before))
 
@@ -106,8 +100,8 @@ part-write-row-start-2 c = omega (arith, room (c .before))
 part-write-row-end-2 : tie.Need-part-write-row-end-2 Inv-loop μ-loop
 part-write-row-end-2 c = omega (arith, room (c .before))
 
-add-write-row-2 : tie.Need-add-write-row-2 Inv-loop μ-loop
-add-write-row-2 c = omega (arith, room (c .before .before))
+add-write-row : tie.Need-add-write-row Inv-loop μ-loop
+add-write-row c = omega (arith, room (c .before .before))
 
 sub-write-row-3 : tie.Need-sub-write-row-3 Inv-loop μ-loop
 sub-write-row-3 c = omega (arith, room (c .before .before))
@@ -149,14 +143,13 @@ write-row-requires c κs =
     let a = s .args in
     let l = i .before .loop in
     let cw = i .before .before .before .chroma-side .result in
-    let chroma = l .chroma in
-    let second = a .width * a .height in
+    let second = l .second in
     let third = second + cw * i .before .before .chroma-side2 .result in
     let size = 4 * a .width in (
       s .pre .0,
       suffix-room (a .planes .now) (l .row * a .width) (a .width) (omega (arith, room i)),
-      rw (← cw-is (i .before .before)) (suffix-room (a .planes .now) (second + chroma) cw (omega (arith, room i))),
-      rw (← cw-is (i .before .before)) (suffix-room (a .planes .now) (third + chroma) cw (omega (arith, room i))),
+      rw (← cw-is (i .before .before)) (suffix-room (a .planes .now) second cw (omega (arith, room i))),
+      rw (← cw-is (i .before .before)) (suffix-room (a .planes .now) third cw (omega (arith, room i))),
       suffix-room (a .alpha .now) (l .row * a .step) _ (shown i .fits),
       suffix-room (l .image) (l .row * size) size (fits i .fits),
       omega (arith, l .inv .2, s .pre .7),
@@ -181,11 +174,11 @@ loop-again c =
     let cw = i .before .before .before .chroma-side .result in
     let ch = i .before .before .chroma-side2 .result in (
       omega arith,
-      chroma-step _ _ (a .width) (l .row) cw (l .chroma) _ (i .before .before .before .before .has-subsampled-chroma .ensures) (cw-is (i .before .before)) (l .inv .1) (c .next-chroma-start .ensures),
+      chroma-step _ _ (a .width) (a .width * a .height) (l .row) cw (l .second) _ (i .before .before .before .before .has-subsampled-chroma .ensures) (cw-is (i .before .before)) (l .inv .1) (c .next-chroma-start .ensures),
       w .kept .1 .1 .1 .1 .1 .1 .1 .1 .1 .0 ∙ l .inv .2,
       w .kept .1 .1 .1 .1 .1 .1 .1 .1 .1 .1 .0 ∙ l .inv .3,
       image-step _ (l .image) _ _ (l .row) (4 * a .width) _ (l .inv .4) (w .ensures)
-          (row-is (fourBytes (channelOffsets (a .layout))) (a .definition) (a .flagged) (a .planes .now) (a .alpha .now) (a .width) (a .height) (l .row) (a .step) cw ch (l .chroma) (cw-is (i .before .before)) (ch-is (i .before .before)) (l .inv .1)) (w .kept .1 .1 .1 .1 .1 .1 .1 .0),
+          (row-is (fourBytes (channelOffsets (a .layout))) (a .definition) (a .flagged) (a .planes .now) (a .alpha .now) (a .width) (a .height) (l .row) (a .step) cw ch (l .second) (cw-is (i .before .before)) (ch-is (i .before .before)) (l .inv .1)) (w .kept .1 .1 .1 .1 .1 .1 .1 .0),
     )
 
 same-length : tie.Need-same-length Inv-loop μ-loop
@@ -211,22 +204,20 @@ write-pixel-rows-spec =
     Inv-loop
     μ-loop
     has-subsampled-chroma-requires
-    mul-second
     chroma-side-requires
     chroma-side-requires-2
-    mul-third
-    add-third
+    mul-chroma-size
     mul-size
+    mul-second
     loop-holds
     mul-write-row
     sub-write-row
     part-write-row-start
     part-write-row-end
-    add-write-row
     sub-write-row-2
     part-write-row-start-2
     part-write-row-end-2
-    add-write-row-2
+    add-write-row
     sub-write-row-3
     part-write-row-start-3
     part-write-row-end-3
