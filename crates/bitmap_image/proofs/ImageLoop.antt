@@ -3,7 +3,7 @@ use Prim.Native.Nat.{ℕ, zero, suc, _+_, _*_, _<_, _≤_}
 use mathlib.Core.Bool.{Bool, true, false}
 use mathlib.Core.Path.{_≡_, refl, sym, ap, _∙_}
 use mathlib.Core.List.{List}
-use native.Mathlib.Nat.{suc-mul, mul-le-mul, mul-le-mul-right, mul-comm, zero-add}
+use native.Mathlib.Nat.{zero-mul, suc-mul, mul-le-mul, mul-le-mul-right, mul-comm, zero-add}
 use native.Mathlib.Numerals.{add-one}
 use native.Mathlib.Omega.{arith}
 use lib.ListN.{length, getD}
@@ -34,12 +34,10 @@ suffix-sample : (planes : List ℕ) (from : ℕ) (p : PlaneAt) (row : ℕ) → f
 unfolding sample
 suffix-sample planes from p row e column = suffix-at planes from column ∙ ap (λ (k : ℕ). getD planes (k + column) 0) e
 
--- the rows of the planes for a row of the picture: cw and ch are the sides of a chroma plane, the chroma row of the second plane starts at `second`
-module _ (planes : List ℕ) (s : Bool) (width height row cw ch second : ℕ) (ew : cw ≡ chromaSide s width) (eh : ch ≡ chromaSide s height) (ec : IsChromaStart s width (width * height) row second) where
-  first-is : (column : ℕ) → getD (suffix planes (row * width)) column 0 ≡ sample planes (firstPlane width height) row column
-  unfolding firstPlane
-  first-is = suffix-sample planes (row * width) (firstPlane width height) row (sym (zero-add (row * width)))
-
+-- The rows of the planes for a row of the picture: that of the first plane starts at `first`, that of the second, a chroma row, at `second`; cw and ch
+-- are the sides of a chroma plane
+module _ (planes : List ℕ) (s : Bool) (width height row cw ch first second : ℕ) (ew : cw ≡ chromaSide s width) (eh : ch ≡ chromaSide s height) (ef : first ≡ row * width)
+    (ec : IsChromaStart s width (width * height) row second) where
   second-at : second ≡ width * height + chromaIndex s row * chromaSide s width
   second-at = start-is s width (width * height) row second ec
 
@@ -47,6 +45,10 @@ module _ (planes : List ℕ) (s : Bool) (width height row cw ch second : ℕ) (e
   third-at =
       let size : cw * ch ≡ chromaSide s width * chromaSide s height = λ i. ew i * eh i in
       omega (arith, second-at, size)
+
+  first-is : (column : ℕ) → getD (suffix planes first) column 0 ≡ sample planes (firstPlane width height) row column
+  unfolding firstPlane
+  first-is = suffix-sample planes first (firstPlane width height) row (ef ∙ sym (zero-add (row * width)))
 
   second-is : (column : ℕ) → getD (suffix planes second) column 0 ≡ sample planes (secondPlane s width height) (chromaIndex s row) column
   unfolding secondPlane
@@ -56,27 +58,43 @@ module _ (planes : List ℕ) (s : Bool) (width height row cw ch second : ℕ) (e
   unfolding thirdPlane
   third-is = suffix-sample planes (second + cw * ch) (thirdPlane s width height) (chromaIndex s row) third-at
 
--- a row of pixels
-pub row-is : (form : PixelForm) (d : ColorPlaneDefinition) (flagged : Bool) (planes alpha : List ℕ) (width height row step cw ch second : ℕ) → cw ≡ chromaSide (subsampled d) width
-    → ch ≡ chromaSide (subsampled d) height → IsChromaStart (subsampled d) width (width * height) row second
-    → rowPixels form d flagged (suffix planes (row * width)) (suffix planes second) (suffix planes (second + cw * ch)) (suffix alpha (row * step)) width
+alpha-is : (alpha : List ℕ) (row step shown : ℕ) → shown ≡ row * step → (column : ℕ) → getD (suffix alpha shown) column 0 ≡ getD alpha (row * step + column) 0
+alpha-is alpha row step shown e column = suffix-at alpha shown column ∙ ap (λ (k : ℕ). getD alpha (k + column) 0) e
+
+-- a row of pixels, whose alpha starts at `shown`
+pub row-is : (form : PixelForm) (d : ColorPlaneDefinition) (flagged : Bool) (planes alpha : List ℕ) (width height row step cw ch first second shown : ℕ) → cw ≡ chromaSide (subsampled d) width
+    → ch ≡ chromaSide (subsampled d) height → first ≡ row * width → IsChromaStart (subsampled d) width (width * height) row second → shown ≡ row * step
+    → rowPixels form d flagged (suffix planes first) (suffix planes second) (suffix planes (second + cw * ch)) (suffix alpha shown) width
     ≡ rowWith form d flagged width height planes alpha step row
 unfolding colourAt chromaIndex
-row-is form Argb flagged planes alpha width height row step cw ch second ew eh ec =
+row-is form Argb flagged planes alpha width height row step cw ch first second shown ew eh ef ec ea =
     λ i. concatUpTo width
     (λ (column : ℕ).
     pixelBytes form
-    (rgb (first-is planes false width height row cw ch second ew eh ec column i) (second-is planes false width height row cw ch second ew eh ec column i)
-    (third-is planes false width height row cw ch second ew eh ec column i)) (suffix-at alpha (row * step) column i))
-row-is form (AYCoCg level s) flagged planes alpha width height row step cw ch second ew eh ec =
+    (rgb (first-is planes false width height row cw ch first second ew eh ef ec column i) (second-is planes false width height row cw ch first second ew eh ef ec column i)
+    (third-is planes false width height row cw ch first second ew eh ef ec column i)) (alpha-is alpha row step shown ea column i))
+row-is form (AYCoCg level s) flagged planes alpha width height row step cw ch first second shown ew eh ef ec ea =
     λ i. concatUpTo width
     (λ (column : ℕ).
     pixelBytes form
-    (aycocgColour flagged level (first-is planes s width height row cw ch second ew eh ec column i)
-    (second-is planes s width height row cw ch second ew eh ec (chromaIndex s column) i)
-    (third-is planes s width height row cw ch second ew eh ec (chromaIndex s column) i)) (suffix-at alpha (row * step) column i))
+    (aycocgColour flagged level (first-is planes s width height row cw ch first second ew eh ef ec column i)
+    (second-is planes s width height row cw ch first second ew eh ef ec (chromaIndex s column) i)
+    (third-is planes s width height row cw ch first second ew eh ef ec (chromaIndex s column) i)) (alpha-is alpha row step shown ea column i))
 
--- the chroma row of the next row: t and cw are what the code has for s and the width of a chroma plane
+-- ---- the starts of the next row
+
+-- rows a `pitch` apart
+pub index-first : (pitch : ℕ) → 0 ≡ 0 * pitch
+index-first pitch = sym (zero-mul pitch)
+
+-- no alpha is read
+pub index-none : (row : ℕ) → 0 ≡ row * 0
+index-none row = omega arith
+
+pub index-next : (row pitch at : ℕ) → at ≡ row * pitch → at + pitch ≡ (row + 1) * pitch
+index-next row pitch at e = ap (λ (k : ℕ). k + pitch) e ∙ sym (suc-mul row pitch) ∙ ap (λ (k : ℕ). k * pitch) (sym (add-one row))
+
+-- the chroma row: t and cw are what the code has for s and the width of a chroma plane
 pub chroma-step : (s t : Bool) (width offset row cw start next : ℕ) → t ≡ s → cw ≡ chromaSide s width → IsChromaStart s width offset row start → next ≡ nextCounter t cw row start
     → IsChromaStart s width offset (row + 1) next
 chroma-step s t width offset row cw start next et ew ec en = start-next s width offset row start ec ∙ (λ i. nextCounter (sym et i) (sym ew i) row start) ∙ sym en
@@ -94,9 +112,9 @@ pub record Areas (width height cw ch len : ℕ) : Type 0 where
   pub chroma-most : cw * ch ≤ 67108864
   pub all : width * height + 2 * (cw * ch) ≤ len
 
--- and of a row, whose chroma row starts at `second` in the second plane
-pub record Rooms (width height row cw ch second len : ℕ) : Type 0 where
-  pub luma-row : row * width + width ≤ width * height
+-- and of a row
+pub record Rooms (width height cw ch first second len : ℕ) : Type 0 where
+  pub luma-row : first + width ≤ width * height
   pub chroma-row : second + cw ≤ width * height + cw * ch
   pub full-most : width * height ≤ 67108864
   pub chroma-most : cw * ch ≤ 67108864
@@ -111,12 +129,12 @@ module _ (s : Bool) (width height cw ch len : ℕ) (lw : width ≤ 8192) (lh : h
     all = rw (ew, eh) (rw (colour-sum-sides false s width height) at l);
   }
 
-  pub rooms : (row second : ℕ) → row < height → IsChromaStart s width (width * height) row second → Rooms width height row cw ch second len
-  rooms row second lr ec =
+  pub rooms : (row first second : ℕ) → row < height → first ≡ row * width → IsChromaStart s width (width * height) row second → Rooms width height cw ch first second len
+  rooms row first second lr ef ec =
       let below : chromaIndex s row < ch = rw eh (place-below s row height lr) in
       let start : second ≡ width * height + chromaIndex s row * cw = start-is s width (width * height) row second ec ∙ ap (λ (k : ℕ). width * height + chromaIndex s row * k) (sym ew) in
       record {
-        luma-row = row-within row width height lr;
+        luma-row = omega (arith, ef, row-within row width height lr);
         chroma-row = omega (arith, start, row-within (chromaIndex s row) cw ch below);
         full-most = areas .full-most;
         chroma-most = areas .chroma-most;
@@ -129,10 +147,10 @@ pub record PartRoom (from need len : ℕ) : Type 0 where
   pub small : from ≤ 536870912
 
 -- a row of the image: `size` is its number of bytes
-pub image-room : (form : PixelForm) (row width height len size : ℕ) → row < height → width ≤ 8192 → height ≤ 8192 → size ≡ bytesPerPixel form * width → imageSize form width height ≤ len
-    → PartRoom (row * size) size len
+pub image-room : (form : PixelForm) (row width height len size to : ℕ) → row < height → width ≤ 8192 → height ≤ 8192 → size ≡ bytesPerPixel form * width → imageSize form width height ≤ len
+    → to ≡ row * size → PartRoom to size len
 unfolding imageSize
-image-room form row width height len size lr lw lh es l =
+image-room form row width height len size to lr lw lh es l et =
     let within : row * size + size ≤ size * height = row-within row size height lr in
     let all : size * height ≡ bytesPerPixel form * width * height = ap (λ (k : ℕ). k * height) es in
     let bytes : bytesPerPixel form * width ≤ 4 * 8192 = mul-le-mul (bytesPerPixel-max form) lw in
@@ -140,11 +158,11 @@ image-room form row width height len size lr lw lh es l =
     record { fits = omega arith; small = omega arith }
 
 -- a row of alpha
-pub alpha-room : (row step need height len : ℕ) → row < height → height ≤ 8192 → step ≤ 8192 → row * step + need ≤ len → PartRoom (row * step) need len
-alpha-room row step need height len lr lh ls l =
+pub alpha-room : (row step need height len shown : ℕ) → row < height → height ≤ 8192 → step ≤ 8192 → row * step + need ≤ len → shown ≡ row * step → PartRoom shown need len
+alpha-room row step need height len shown lr lh ls l ea =
     let low : row ≤ 8192 = omega arith in
     let most : row * step ≤ 8192 * 8192 = mul-le-mul low ls in
-    record { fits = l; small = omega arith }
+    record { fits = omega arith; small = omega arith }
 
 -- ---- the rows of an image: d₀ is the image before, d the slice now; f gives a row, `size` is the size of one
 
@@ -157,13 +175,13 @@ unfolding writeRows
 image-start d size f = record { len = refl; image = refl }
 
 -- one more row, written to a part of the image
-pub image-step : (d₀ d ys vs : List ℕ) (row size : ℕ) (f : ℕ → List ℕ) → ImageInvariant d₀ d row size f → ys ≡ overwrite (suffix d (row * size)) vs → vs ≡ f row
-    → length ys ≡ length (suffix d (row * size)) → ImageInvariant d₀ (replaceSuffix d (row * size) ys) (row + 1) size f
+pub image-step : (d₀ d ys vs : List ℕ) (row size to : ℕ) (f : ℕ → List ℕ) → ImageInvariant d₀ d row size f → to ≡ row * size → ys ≡ overwrite (suffix d to) vs → vs ≡ f row
+    → length ys ≡ length (suffix d to) → ImageInvariant d₀ (replaceSuffix d to ys) (row + 1) size f
 unfolding writeRows
-image-step d₀ d ys vs row size f h e ev same = record {
-  len = length-replaceSuffix d ys (row * size) same ∙ h .len;
-  image = suffix-overwrite d ys vs (row * size) e
-      ∙ (λ i. writeAt (h .image i) (row * size) (ev i))
+image-step d₀ d ys vs row size to f h et e ev same = record {
+  len = length-replaceSuffix d ys to same ∙ h .len;
+  image = suffix-overwrite d ys vs to e
+      ∙ (λ i. writeAt (h .image i) (et i) (ev i))
       ∙ ap (λ (k : ℕ). writeRows size f k d₀) (sym (add-one row));
 }
 

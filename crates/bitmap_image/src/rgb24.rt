@@ -32,18 +32,22 @@ pub(crate) fn write_rgb24_rows(
     let chroma_size = chroma_width * chroma_side(subsampling, height);
     let size = 3 * width;
     let mut row = 0;
+    let mut first = 0;
     let mut second = width * height;
+    let mut to = 0;
     while row < height {
         write_rgb24_row(
             definition,
             flagged,
-            &planes[row * width..],
+            &planes[first..],
             &planes[second..],
             &planes[second + chroma_size..],
-            &mut image[row * size..],
+            &mut image[to..],
             width,
         );
+        first = first + width;
         second = next_chroma_start(subsampling, chroma_width, row, second);
+        to = to + size;
         row = row + 1;
     }
 }

@@ -88,22 +88,28 @@ pub(crate) fn write_pixel_rows(
     let chroma_size = chroma_width * chroma_side(subsampling, height);
     let size = 4 * width;
     let mut row = 0;
+    let mut first = 0;
     let mut second = width * height;
+    let mut shown = 0;
+    let mut to = 0;
     while row < height {
         write_row(
             layout,
             definition,
             flagged,
-            &planes[row * width..],
+            &planes[first..],
             &planes[second..],
             &planes[second + chroma_size..],
-            &alpha[row * step..],
-            &mut image[row * size..],
+            &alpha[shown..],
+            &mut image[to..],
             width,
             co,
             cg,
         );
+        first = first + width;
         second = next_chroma_start(subsampling, chroma_width, row, second);
+        shown = shown + step;
+        to = to + size;
         row = row + 1;
     }
 }
