@@ -1,64 +1,73 @@
 -- The chroma samples found by counting are those of `chromaIndex`, for every pixel; and what the loops need of it: where the chroma row of a row
 -- starts, and the chroma column of a column, each from the one before.
 use Prim.Native.Nat.{ℕ, zero, suc, _+_, _-_, _*_, _/_, _%_, _<_}
-use mathlib.Core.Bool.{Bool, true, false, _&&_}
+use mathlib.Core.Bool.{Bool, true, false}
 use mathlib.Core.Path.{_≡_, refl, sym, ap, _∙_}
 use native.Mathlib.Nat.{zero-mul, suc-mul, mul-zero, mul-one}
 use native.Mathlib.Numerals.{add-one}
 use native.Mathlib.Omega.{arith}
 use lib.Dec.{eqb, ltb}
-use borrow.Author.Tests.{eqb-true, eqb-false, lt-ltb, le-ltb}
+use borrow.Author.Tests.{eqb-true, eqb-false, ne-eqb, lt-ltb, le-ltb}
 use Rattle.rle_format.specs.Choice.{choose}
 use Rattle.bitmap_format.specs.Planes.{chromaSide}
 use Rattle.bitmap_format.specs.Image.{chromaIndex}
-use Rattle.bitmap_format.specs.Counting.{CountedPixel, sampleIndex, nextCounter, nextInRow, nextRow, nextPixel, countedPixel, pixelByIndex, ChromaIndexByCounting, IsChromaStart, IsChromaColumn}
+use Rattle.bitmap_format.specs.Counting.{CountedPixel, sampleIndex, counterStep, nextInRow, nextRow, nextPixel, countedPixel, pixelByIndex, ChromaIndexByCounting, IsChromaStart, IsChromaColumn}
 use Rattle.bitmap_format.proofs.PixelAt.{in-plane, place-below}
 
 -- ---- one counter
 
 -- the counter of row or column 0
-counter-start : (s : Bool) (step : ℕ) → chromaIndex s 0 * step ≡ 0
+counter-first : (s : Bool) (step : ℕ) → chromaIndex s 0 * step ≡ 0
 unfolding chromaIndex
-counter-start true step = zero-mul step
-counter-start false step = zero-mul step
+counter-first true step = zero-mul step
+counter-first false step = zero-mul step
 
 -- and of the next
-pub counter-step : (s : Bool) (step n : ℕ) → nextCounter s step n (chromaIndex s n * step) ≡ chromaIndex s (n + 1) * step
-unfolding chromaIndex nextCounter
-counter-step false step n = sym (suc-mul n step) ∙ ap (λ (k : ℕ). k * step) (sym (add-one n))
-counter-step true step n = go (eqb (n % 2) 0) refl
+counter-next : (s : Bool) (step n : ℕ) → chromaIndex s n * step + counterStep s step n ≡ chromaIndex s (n + 1) * step
+unfolding chromaIndex counterStep
+counter-next false step n = sym (suc-mul n step) ∙ ap (λ (k : ℕ). k * step) (sym (add-one n))
+counter-next true step n = go (eqb (n % 2) 0) refl
   where
-    go : (t : Bool) → eqb (n % 2) 0 ≡ t → choose t (n / 2 * step) (n / 2 * step + step) ≡ (n + 1) / 2 * step
+    go : (t : Bool) → eqb (n % 2) 0 ≡ t → n / 2 * step + choose t 0 step ≡ (n + 1) / 2 * step
     go true et =
         let even = eqb-true (n % 2) 0 et in
         let same : n / 2 ≡ (n + 1) / 2 = omega arith in
-        ap (λ (k : ℕ). k * step) same
+        let none : n / 2 * step + 0 ≡ n / 2 * step = omega arith in
+        none ∙ ap (λ (k : ℕ). k * step) same
     go false et =
         let odd = eqb-false (n % 2) 0 et in
         let more : suc (n / 2) ≡ (n + 1) / 2 = omega arith in
         sym (suc-mul (n / 2) step) ∙ ap (λ (k : ℕ). k * step) more
 
 -- the same with a step of 1
-column-step : (s : Bool) (n : ℕ) → nextCounter s 1 n (chromaIndex s n) ≡ chromaIndex s (n + 1)
-column-step s n = ap (nextCounter s 1 n) (sym (mul-one (chromaIndex s n))) ∙ counter-step s 1 n ∙ mul-one (chromaIndex s (n + 1))
+column-counter-next : (s : Bool) (n : ℕ) → chromaIndex s n + counterStep s 1 n ≡ chromaIndex s (n + 1)
+column-counter-next s n =
+    ap (λ (k : ℕ). k + counterStep s 1 n) (sym (mul-one (chromaIndex s n))) ∙ counter-next s 1 n ∙ mul-one (chromaIndex s (n + 1))
 
--- the next counter, by the tests of the code
-pub counter-stays : (s : Bool) (step n counter : ℕ) → s ≡ true → n % 2 ≡ 0 → nextCounter s step n counter ≡ counter
-unfolding nextCounter
-counter-stays s step n counter es e = rw (es, e)
+-- ---- the step of a counter, by the tests of the code
 
-pub counter-full : (s : Bool) (step n counter : ℕ) → s ≡ false → nextCounter s step n counter ≡ counter + step
-unfolding nextCounter
-counter-full s step n counter es = rw es
+pub step-full : (step n : ℕ) → counterStep false step n ≡ step
+unfolding counterStep
+step-full step n = refl
 
-pub counter-odd : (s : Bool) (step n counter : ℕ) → (n % 2 ≡ 0 → ⊥) → nextCounter s step n counter ≡ counter + step
-unfolding nextCounter
-counter-odd false step n counter h = refl
-counter-odd true step n counter h = go (eqb (n % 2) 0) refl
+pub step-even : (step n : ℕ) → n % 2 ≡ 0 → counterStep true step n ≡ 0
+unfolding counterStep
+step-even step n e = rw e
+
+pub step-odd : (s : Bool) (step n : ℕ) → (n % 2 ≡ 0 → ⊥) → counterStep s step n ≡ step
+unfolding counterStep
+step-odd false step n h = refl
+step-odd true step n h = rw (ne-eqb (n % 2) 0 h)
+
+-- `even` is the step behind an even number
+pub step-by-parity : (s : Bool) (step n even : ℕ) → even ≡ choose s 0 step → counterStep s step n ≡ choose (eqb (n % 2) 0) even step
+unfolding counterStep
+step-by-parity true step n even e = ap (λ (k : ℕ). choose (eqb (n % 2) 0) k step) (sym e)
+step-by-parity false step n even e = go (eqb (n % 2) 0)
   where
-    go : (t : Bool) → eqb (n % 2) 0 ≡ t → choose t counter (counter + step) ≡ counter + step
-    go true et = absurd (h (eqb-true (n % 2) 0 et))
-    go false et = refl
+    go : (t : Bool) → step ≡ choose t even step
+    go true = sym e
+    go false = refl
 
 -- ---- every pixel, in the order of the image
 
@@ -72,17 +81,17 @@ module _ (s : Bool) (width : ℕ) where
   unfolding nextPixel nextInRow
   in-row row column h =
       ap (λ (t : Bool). choose t (nextInRow s (pixelByIndex s width row column)) (nextRow s width (pixelByIndex s width row column))) (lt-ltb (column + 1) width h)
-      ∙ (λ i. record { row = row; column = column + 1; chromaStart = chromaIndex s row * chromaSide s width; chromaColumn = column-step s column i })
+      ∙ (λ i. record { row = row; column = column + 1; chromaStart = chromaIndex s row * chromaSide s width; chromaColumn = column-counter-next s column i })
 
   to-next-row : (row column : ℕ) → column + 1 ≡ width → nextPixel s width (pixelByIndex s width row column) ≡ pixelByIndex s width (row + 1) 0
   unfolding nextPixel nextRow
   to-next-row row column e =
       ap (λ (t : Bool). choose t (nextInRow s (pixelByIndex s width row column)) (nextRow s width (pixelByIndex s width row column))) (le-ltb (column + 1) width (omega arith))
-      ∙ (λ i. record { row = row + 1; column = 0; chromaStart = counter-step s (chromaSide s width) row i; chromaColumn = sym (first-index s) i })
+      ∙ (λ i. record { row = row + 1; column = 0; chromaStart = counter-next s (chromaSide s width) row i; chromaColumn = sym (first-index s) i })
 
   first-counted : countedPixel s width 0 ≡ pixelByIndex s width 0 0
   unfolding countedPixel
-  first-counted = λ i. record { row = 0; column = 0; chromaStart = sym (counter-start s (chromaSide s width)) i; chromaColumn = sym (first-index s) i }
+  first-counted = λ i. record { row = 0; column = 0; chromaStart = sym (counter-first s (chromaSide s width)) i; chromaColumn = sym (first-index s) i }
 
   next-counted : (n m : ℕ) → m ≡ suc n → countedPixel s width m ≡ nextPixel s width (countedPixel s width n)
   unfolding countedPixel
@@ -137,27 +146,18 @@ start-is s width offset row counter e = sym e ∙ ap (λ (k : ℕ). offset + k) 
 
 pub start-first : (s : Bool) (width offset : ℕ) → IsChromaStart s width offset 0 offset
 start-first s width offset =
-    let none = start-counted s width 0 ∙ counter-start s (chromaSide s width) in
+    let none = start-counted s width 0 ∙ counter-first s (chromaSide s width) in
     omega (arith, none)
 
--- both counters with an offset before them
-counter-offset : (s : Bool) (offset step n counter : ℕ) → offset + nextCounter s step n counter ≡ nextCounter s step n (offset + counter)
-unfolding nextCounter
-counter-offset s offset step n counter = go (s && eqb (n % 2) 0)
-  where
-    go : (t : Bool) → offset + choose t counter (counter + step) ≡ choose t (offset + counter) (offset + counter + step)
-    go true = refl
-    go false = omega arith
-
 pub start-next : (s : Bool) (width offset row counter : ℕ) → IsChromaStart s width offset row counter
-    → IsChromaStart s width offset (row + 1) (nextCounter s (chromaSide s width) row counter)
+    → IsChromaStart s width offset (row + 1) (counter + counterStep s (chromaSide s width) row)
 start-next s width offset row counter e =
-    ap (λ (k : ℕ). offset + k)
-    (start-counted s width (row + 1)
-    ∙ sym (counter-step s (chromaSide s width) row)
-    ∙ ap (nextCounter s (chromaSide s width) row) (sym (start-counted s width row)))
-    ∙ counter-offset s offset (chromaSide s width) row (countedPixel s width (row * width) .chromaStart)
-    ∙ ap (nextCounter s (chromaSide s width) row) e
+    let next : countedPixel s width (row * width) .chromaStart + counterStep s (chromaSide s width) row ≡ countedPixel s width ((row + 1) * width) .chromaStart =
+    ap (λ (k : ℕ). k + counterStep s (chromaSide s width) row) (start-counted s width row)
+    ∙ counter-next s (chromaSide s width) row
+    ∙ sym (start-counted s width (row + 1))
+    in
+    omega (arith, next, e)
 
 -- ---- the counter of the loops over columns
 
@@ -170,6 +170,8 @@ column-counted s column width row h = ap (λ (p : CountedPixel). p .chromaColumn
 pub column-first : (s : Bool) → IsChromaColumn s 0 0
 column-first s width row h = column-counted s 0 width row h ∙ first-index s
 
-pub column-next : (s : Bool) (column counter : ℕ) → IsChromaColumn s column counter → IsChromaColumn s (column + 1) (nextCounter s 1 column counter)
+pub column-next : (s : Bool) (column counter : ℕ) → IsChromaColumn s column counter → IsChromaColumn s (column + 1) (counter + counterStep s 1 column)
 column-next s column counter e width row h =
-    column-counted s (column + 1) width row h ∙ sym (column-step s column) ∙ ap (nextCounter s 1 column) (sym (column-is s column counter e))
+    column-counted s (column + 1) width row h
+    ∙ sym (column-counter-next s column)
+    ∙ ap (λ (k : ℕ). k + counterStep s 1 column) (sym (column-is s column counter e))

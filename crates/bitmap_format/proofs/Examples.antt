@@ -25,7 +25,7 @@ use Rattle.bitmap_format.specs.HeaderByte.{definitionFromByte, headerFro
 use Rattle.bitmap_format.specs.Stream.{withoutPad, splitRest, splitStream, unpackSplit, unpackStreamBy, streamWorkSize, withHeaderByte, packStream}
 use Rattle.bitmap_format.specs.StreamExamples as streams
 use Rattle.bitmap_format.specs.PixelExamples as pixels
-use Rattle.bitmap_format.specs.Counting.{nextCounter, nextInRow, nextRow, nextPixel, countedPixel}
+use Rattle.bitmap_format.specs.Counting.{counterStep, nextInRow, nextRow, nextPixel, countedPixel}
 use Rattle.bitmap_format.specs.CountingExamples as counting
 
 pub examples-hold : map computed examples ≡ map expected examples
@@ -45,5 +45,5 @@ unfolding unpackPlane unpackRows readRow readSegment rawCount runLength undoDelt
 pixel-examples-hold = refl
 
 pub counting-examples-hold : map counting.computed counting.examples ≡ map counting.expected counting.examples
-unfolding chromaSide concatUpTo nextCounter nextInRow nextRow nextPixel countedPixel
+unfolding chromaSide concatUpTo counterStep nextInRow nextRow nextPixel countedPixel
 counting-examples-hold = refl

@@ -19,9 +19,9 @@ pub record CountedPixel : Type 0 where
 abbrev pub sampleIndex : CountedPixel → ℕ
 sampleIndex p = p .chromaStart + p .chromaColumn
 
--- the counter of row or column n + 1, from that of n: `step` more or, if subsampled and n is even, the same
-unfoldable pub nextCounter : (subsampling : Bool) (step n counter : ℕ) → ℕ
-nextCounter s step n counter = choose (s && eqb (n % 2) 0) counter (counter + step)
+-- how far a counter goes on behind row or column n: by `step` or, if subsampled and n is even, not at all
+unfoldable pub counterStep : (subsampling : Bool) (step n : ℕ) → ℕ
+counterStep s step n = choose (s && eqb (n % 2) 0) 0 step
 
 -- the first pixel of the image
 abbrev pub firstPixel : CountedPixel
@@ -33,7 +33,7 @@ nextInRow s p = record {
   row = p .row;
   column = p .column + 1;
   chromaStart = p .chromaStart;
-  chromaColumn = nextCounter s 1 (p .column) (p .chromaColumn);
+  chromaColumn = p .chromaColumn + counterStep s 1 (p .column);
 }
 
 -- the first pixel of the next row
@@ -41,7 +41,7 @@ unfoldable pub nextRow : (subsampling : Bool) (width : ℕ) → CountedPixel →
 nextRow s width p = record {
   row = p .row + 1;
   column = 0;
-  chromaStart = nextCounter s (chromaSide s width) (p .row) (p .chromaStart);
+  chromaStart = p .chromaStart + counterStep s (chromaSide s width) (p .row);
   chromaColumn = 0;
 }
 

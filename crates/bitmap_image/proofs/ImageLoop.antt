@@ -1,13 +1,15 @@
 -- The loop that writes the rows of an image: rows of planes passed as parts of a slice, their bounds, and the invariant.
-use Prim.Native.Nat.{ℕ, zero, suc, _+_, _*_, _<_, _≤_}
+use Prim.Native.Nat.{ℕ, zero, suc, _+_, _*_, _%_, _<_, _≤_}
 use mathlib.Core.Bool.{Bool, true, false}
 use mathlib.Core.Path.{_≡_, refl, sym, ap, _∙_}
 use mathlib.Core.List.{List}
 use native.Mathlib.Nat.{zero-mul, suc-mul, mul-le-mul, mul-le-mul-right, mul-comm, zero-add}
 use native.Mathlib.Numerals.{add-one}
 use native.Mathlib.Omega.{arith}
+use lib.Dec.{eqb}
 use lib.ListN.{length, getD}
 use lib.Seq.{getD-drop}
+use Rattle.rle_format.specs.Choice.{choose}
 use Rattle.rle_format.specs.Slice.{overwrite, writeAt}
 use Rattle.rle_format.proofs.Slice.{suffix, replaceSuffix, suffix-drop, length-replaceSuffix, suffix-overwrite}
 use Rattle.rle_format.proofs.Plane.{area-max}
@@ -18,8 +20,8 @@ use Rattle.bitmap_format.specs.Planes.{PlaneAt, subsampled, chromaSide, firstPl
 use Rattle.bitmap_format.specs.Pixels.{PixelForm, bytesPerPixel, pixelBytes}
 use Rattle.bitmap_format.specs.Sizes.{sampleCount, sumOver, rowSize, imageSize}
 use Rattle.bitmap_format.specs.Image.{sample, chromaIndex, colourAt, concatUpTo, writeRows}
-use Rattle.bitmap_format.specs.Counting.{nextCounter, IsChromaStart}
-use Rattle.bitmap_format.proofs.Counting.{start-is, start-next}
+use Rattle.bitmap_format.specs.Counting.{counterStep, IsChromaStart}
+use Rattle.bitmap_format.proofs.Counting.{step-by-parity, start-is, start-next}
 use Rattle.bitmap_format.proofs.Sizes.{chromaSide-max, colour-sum-sides, bytesPerPixel-max}
 use Rattle.bitmap_format.proofs.PixelAt.{place-below}
 use Rattle.bitmap_rows.specs.Rows.{rowPixels}
@@ -34,70 +36,71 @@ suffix-sample : (planes : List ℕ) (from : ℕ) (p : PlaneAt) (row : ℕ) → f
 unfolding sample
 suffix-sample planes from p row e column = suffix-at planes from column ∙ ap (λ (k : ℕ). getD planes (k + column) 0) e
 
--- The rows of the planes for a row of the picture: that of the first plane starts at `first`, that of the second, a chroma row, at `second`; cw and ch
--- are the sides of a chroma plane
-module _ (planes : List ℕ) (s : Bool) (width height row cw ch first second : ℕ) (ew : cw ≡ chromaSide s width) (eh : ch ≡ chromaSide s height) (ef : first ≡ row * width)
-    (ec : IsChromaStart s width (width * height) row second) where
-  second-at : second ≡ width * height + chromaIndex s row * chromaSide s width
-  second-at = start-is s width (width * height) row second ec
-
-  third-at : second + cw * ch ≡ width * height + chromaSide s width * chromaSide s height + chromaIndex s row * chromaSide s width
-  third-at =
-      let size : cw * ch ≡ chromaSide s width * chromaSide s height = λ i. ew i * eh i in
-      omega (arith, second-at, size)
-
-  first-is : (column : ℕ) → getD (suffix planes first) column 0 ≡ sample planes (firstPlane width height) row column
+-- the rows of the planes for a row of the picture: cw and ch are the sides of a chroma plane, the chroma rows start at `second` and `third`
+module _ (planes : List ℕ) (s : Bool) (width height row cw ch second third : ℕ) (ew : cw ≡ chromaSide s width) (eh : ch ≡ chromaSide s height)
+    (es : IsChromaStart s width (width * height) row second) (et : IsChromaStart s width (width * height + cw * ch) row third) where
+  first-is : (column : ℕ) → getD (suffix planes (row * width)) column 0 ≡ sample planes (firstPlane width height) row column
   unfolding firstPlane
-  first-is = suffix-sample planes first (firstPlane width height) row (ef ∙ sym (zero-add (row * width)))
+  first-is = suffix-sample planes (row * width) (firstPlane width height) row (sym (zero-add (row * width)))
 
   second-is : (column : ℕ) → getD (suffix planes second) column 0 ≡ sample planes (secondPlane s width height) (chromaIndex s row) column
   unfolding secondPlane
-  second-is = suffix-sample planes second (secondPlane s width height) (chromaIndex s row) second-at
+  second-is = suffix-sample planes second (secondPlane s width height) (chromaIndex s row) (start-is s width (width * height) row second es)
 
-  third-is : (column : ℕ) → getD (suffix planes (second + cw * ch)) column 0 ≡ sample planes (thirdPlane s width height) (chromaIndex s row) column
+  third-is : (column : ℕ) → getD (suffix planes third) column 0 ≡ sample planes (thirdPlane s width height) (chromaIndex s row) column
   unfolding thirdPlane
-  third-is = suffix-sample planes (second + cw * ch) (thirdPlane s width height) (chromaIndex s row) third-at
+  third-is =
+      suffix-sample planes third (thirdPlane s width height) (chromaIndex s row)
+      (start-is s width (width * height + cw * ch) row third et ∙ (λ i. width * height + ew i * eh i + chromaIndex s row * chromaSide s width))
 
-alpha-is : (alpha : List ℕ) (row step shown : ℕ) → shown ≡ row * step → (column : ℕ) → getD (suffix alpha shown) column 0 ≡ getD alpha (row * step + column) 0
-alpha-is alpha row step shown e column = suffix-at alpha shown column ∙ ap (λ (k : ℕ). getD alpha (k + column) 0) e
-
--- a row of pixels, whose alpha starts at `shown`
-pub row-is : (form : PixelForm) (d : ColorPlaneDefinition) (flagged : Bool) (planes alpha : List ℕ) (width height row step cw ch first second shown : ℕ) → cw ≡ chromaSide (subsampled d) width
-    → ch ≡ chromaSide (subsampled d) height → first ≡ row * width → IsChromaStart (subsampled d) width (width * height) row second → shown ≡ row * step
-    → rowPixels form d flagged (suffix planes first) (suffix planes second) (suffix planes (second + cw * ch)) (suffix alpha shown) width
+-- a row of pixels
+pub row-is : (form : PixelForm) (d : ColorPlaneDefinition) (flagged : Bool) (planes alpha : List ℕ) (width height row step cw ch second third : ℕ) → cw ≡ chromaSide (subsampled d) width
+    → ch ≡ chromaSide (subsampled d) height → IsChromaStart (subsampled d) width (width * height) row second → IsChromaStart (subsampled d) width (width * height + cw * ch) row third
+    → rowPixels form d flagged (suffix planes (row * width)) (suffix planes second) (suffix planes third) (suffix alpha (row * step)) width
     ≡ rowWith form d flagged width height planes alpha step row
 unfolding colourAt chromaIndex
-row-is form Argb flagged planes alpha width height row step cw ch first second shown ew eh ef ec ea =
+row-is form Argb flagged planes alpha width height row step cw ch second third ew eh es et =
     λ i. concatUpTo width
     (λ (column : ℕ).
     pixelBytes form
-    (rgb (first-is planes false width height row cw ch first second ew eh ef ec column i) (second-is planes false width height row cw ch first second ew eh ef ec column i)
-    (third-is planes false width height row cw ch first second ew eh ef ec column i)) (alpha-is alpha row step shown ea column i))
-row-is form (AYCoCg level s) flagged planes alpha width height row step cw ch first second shown ew eh ef ec ea =
+    (rgb (first-is planes false width height row cw ch second third ew eh es et column i) (second-is planes false width height row cw ch second third ew eh es et column i)
+    (third-is planes false width height row cw ch second third ew eh es et column i)) (suffix-at alpha (row * step) column i))
+row-is form (AYCoCg level s) flagged planes alpha width height row step cw ch second third ew eh es et =
     λ i. concatUpTo width
     (λ (column : ℕ).
     pixelBytes form
-    (aycocgColour flagged level (first-is planes s width height row cw ch first second ew eh ef ec column i)
-    (second-is planes s width height row cw ch first second ew eh ef ec (chromaIndex s column) i)
-    (third-is planes s width height row cw ch first second ew eh ef ec (chromaIndex s column) i)) (alpha-is alpha row step shown ea column i))
+    (aycocgColour flagged level (first-is planes s width height row cw ch second third ew eh es et column i)
+    (second-is planes s width height row cw ch second third ew eh es et (chromaIndex s column) i)
+    (third-is planes s width height row cw ch second third ew eh es et (chromaIndex s column) i)) (suffix-at alpha (row * step) column i))
 
--- ---- the starts of the next row
+-- ---- where rows start
 
--- rows a `pitch` apart
+-- the rows of the image, `pitch` bytes apart
 pub index-first : (pitch : ℕ) → 0 ≡ 0 * pitch
 index-first pitch = sym (zero-mul pitch)
 
--- no alpha is read
-pub index-none : (row : ℕ) → 0 ≡ row * 0
-index-none row = omega arith
+pub index-next : (row pitch to : ℕ) → to ≡ row * pitch → to + pitch ≡ (row + 1) * pitch
+index-next row pitch to e = ap (λ (k : ℕ). k + pitch) e ∙ sym (suc-mul row pitch) ∙ ap (λ (k : ℕ). k * pitch) (sym (add-one row))
 
-pub index-next : (row pitch at : ℕ) → at ≡ row * pitch → at + pitch ≡ (row + 1) * pitch
-index-next row pitch at e = ap (λ (k : ℕ). k + pitch) e ∙ sym (suc-mul row pitch) ∙ ap (λ (k : ℕ). k * pitch) (sym (add-one row))
+-- the next chroma row: t, cw, `even` and `step` are what the code has for s, the width of a chroma plane and the steps
+pub chroma-next : (s t : Bool) (width offset row cw even step start : ℕ) → t ≡ s → cw ≡ chromaSide s width → even ≡ choose t 0 cw → step ≡ choose (eqb (row % 2) 0) even cw
+    → IsChromaStart s width offset row start → IsChromaStart s width offset (row + 1) (start + step)
+chroma-next s t width offset row cw even step start et ew ee ep es =
+    let counted : counterStep s (chromaSide s width) row ≡ step = (λ i. counterStep (sym et i) (sym ew i) row) ∙ step-by-parity t cw row even ee ∙ sym ep in
+    start-next s width offset row start es ∙ ap (λ (k : ℕ). start + k) counted
 
--- the chroma row: t and cw are what the code has for s and the width of a chroma plane
-pub chroma-step : (s t : Bool) (width offset row cw start next : ℕ) → t ≡ s → cw ≡ chromaSide s width → IsChromaStart s width offset row start → next ≡ nextCounter t cw row start
-    → IsChromaStart s width offset (row + 1) next
-chroma-step s t width offset row cw start next et ew ec en = start-next s width offset row start ec ∙ (λ i. nextCounter (sym et i) (sym ew i) row start) ∙ sym en
+-- which is at most the width of a chroma plane further
+pub step-max : (t : Bool) (row cw even step : ℕ) → even ≡ choose t 0 cw → step ≡ choose (eqb (row % 2) 0) even cw → step ≤ cw
+step-max t row cw even step ee ep = go t (eqb (row % 2) 0) (ep ∙ ap (λ (k : ℕ). choose (eqb (row % 2) 0) k cw) ee)
+  where
+    go : (t p : Bool) → step ≡ choose p (choose t 0 cw) cw → step ≤ cw
+    go t false e = omega arith
+    go true true e = omega arith
+    go false true e = omega arith
+
+-- in another plane, `size` samples behind
+pub chroma-behind : (s : Bool) (width offset row start size : ℕ) → IsChromaStart s width offset row start → IsChromaStart s width (offset + size) row (start + size)
+chroma-behind s width offset row start size e = omega (arith, e)
 
 -- ---- the room of a row
 
@@ -112,10 +115,11 @@ pub record Areas (width height cw ch len : ℕ) : Type 0 where
   pub chroma-most : cw * ch ≤ 67108864
   pub all : width * height + 2 * (cw * ch) ≤ len
 
--- and of a row
-pub record Rooms (width height cw ch first second len : ℕ) : Type 0 where
-  pub luma-row : first + width ≤ width * height
-  pub chroma-row : second + cw ≤ width * height + cw * ch
+-- and of a row, whose chroma rows start at `second` and `third`
+pub record Rooms (width height row cw ch second third len : ℕ) : Type 0 where
+  pub first-row : row * width + width ≤ width * height
+  pub second-row : second + cw ≤ width * height + cw * ch
+  pub third-row : third + cw ≤ width * height + 2 * (cw * ch)
   pub full-most : width * height ≤ 67108864
   pub chroma-most : cw * ch ≤ 67108864
   pub all : width * height + 2 * (cw * ch) ≤ len
@@ -129,13 +133,16 @@ module _ (s : Bool) (width height cw ch len : ℕ) (lw : width ≤ 8192) (lh : h
     all = rw (ew, eh) (rw (colour-sum-sides false s width height) at l);
   }
 
-  pub rooms : (row first second : ℕ) → row < height → first ≡ row * width → IsChromaStart s width (width * height) row second → Rooms width height cw ch first second len
-  rooms row first second lr ef ec =
+  pub rooms : (row second third : ℕ) → row < height → IsChromaStart s width (width * height) row second → IsChromaStart s width (width * height + cw * ch) row third
+      → Rooms width height row cw ch second third len
+  rooms row second third lr es et =
       let below : chromaIndex s row < ch = rw eh (place-below s row height lr) in
-      let start : second ≡ width * height + chromaIndex s row * cw = start-is s width (width * height) row second ec ∙ ap (λ (k : ℕ). width * height + chromaIndex s row * k) (sym ew) in
+      let within = row-within (chromaIndex s row) cw ch below in
+      let wide : chromaIndex s row * chromaSide s width ≡ chromaIndex s row * cw = ap (λ (k : ℕ). chromaIndex s row * k) (sym ew) in
       record {
-        luma-row = omega (arith, ef, row-within row width height lr);
-        chroma-row = omega (arith, start, row-within (chromaIndex s row) cw ch below);
+        first-row = row-within row width height lr;
+        second-row = omega (arith, within, wide, start-is s width (width * height) row second es);
+        third-row = omega (arith, within, wide, start-is s width (width * height + cw * ch) row third et);
         full-most = areas .full-most;
         chroma-most = areas .chroma-most;
         all = areas .all;
@@ -158,11 +165,11 @@ image-room form row width height len size to lr lw lh es l et =
     record { fits = omega arith; small = omega arith }
 
 -- a row of alpha
-pub alpha-room : (row step need height len shown : ℕ) → row < height → height ≤ 8192 → step ≤ 8192 → row * step + need ≤ len → shown ≡ row * step → PartRoom shown need len
-alpha-room row step need height len shown lr lh ls l ea =
+pub alpha-room : (row step need height len : ℕ) → row < height → height ≤ 8192 → step ≤ 8192 → row * step + need ≤ len → PartRoom (row * step) need len
+alpha-room row step need height len lr lh ls l =
     let low : row ≤ 8192 = omega arith in
     let most : row * step ≤ 8192 * 8192 = mul-le-mul low ls in
-    record { fits = omega arith; small = omega arith }
+    record { fits = l; small = omega arith }
 
 -- ---- the rows of an image: d₀ is the image before, d the slice now; f gives a row, `size` is the size of one
 

@@ -9,7 +9,8 @@ ghost use Rattle.bitmap_format.specs.Pixels.{threeBytes};
 ghost use Rattle.bitmap_format.specs.Sizes.{sampleCount, sumOver, rowSize, imageSize};
 ghost use Rattle.bitmap_format.specs.Image.{imageRow, writeRows};
 ghost use Rattle.bitmap_format.specs.Picture.{isLossLevelInvalid};
-use crate::chroma::next_chroma_start;
+use crate::chroma::chroma_step;
+use crate::chroma::even_step;
 use bitmap_format::ColorPlaneDefinition;
 use bitmap_format::chroma_side;
 use bitmap_format::has_subsampled_chroma;
@@ -31,22 +32,24 @@ pub(crate) fn write_rgb24_rows(
     let chroma_width = chroma_side(subsampling, width);
     let chroma_size = chroma_width * chroma_side(subsampling, height);
     let size = 3 * width;
+    let even = even_step(subsampling, chroma_width);
     let mut row = 0;
-    let mut first = 0;
-    let mut second = width * height;
     let mut to = 0;
+    let mut second = width * height;
+    let mut third = second + chroma_size;
     while row < height {
         write_rgb24_row(
             definition,
             flagged,
-            &planes[first..],
+            &planes[row * width..],
             &planes[second..],
-            &planes[second + chroma_size..],
+            &planes[third..],
             &mut image[to..],
             width,
         );
-        first = first + width;
-        second = next_chroma_start(subsampling, chroma_width, row, second);
+        let step = chroma_step(even, chroma_width, row);
+        second = second + step;
+        third = third + step;
         to = to + size;
         row = row + 1;
     }

@@ -12,7 +12,8 @@ ghost use Rattle.bitmap_format.specs.Image.{writeRows};
 ghost use Rattle.bitmap_format.specs.Picture.{isLossLevelInvalid};
 ghost use Rattle.bitmap_rows.specs.Rows.{rowPixels};
 ghost use Rattle.bitmap_image.specs.Rows.{AlphaRowsFit, arrayWidth, rowWith};
-use crate::chroma::next_chroma_start;
+use crate::chroma::chroma_step;
+use crate::chroma::even_step;
 use bitmap_format::ColorPlaneDefinition;
 use bitmap_format::chroma_side;
 use bitmap_format::has_subsampled_chroma;
@@ -87,28 +88,25 @@ pub(crate) fn write_pixel_rows(
     let chroma_width = chroma_side(subsampling, width);
     let chroma_size = chroma_width * chroma_side(subsampling, height);
     let size = 4 * width;
+    let even = even_step(subsampling, chroma_width);
     let mut row = 0;
-    let mut first = 0;
-    let mut second = width * height;
-    let mut shown = 0;
     let mut to = 0;
+    let mut second = width * height;
     while row < height {
         write_row(
             layout,
             definition,
             flagged,
-            &planes[first..],
+            &planes[row * width..],
             &planes[second..],
             &planes[second + chroma_size..],
-            &alpha[shown..],
+            &alpha[row * step..],
             &mut image[to..],
             width,
             co,
             cg,
         );
-        first = first + width;
-        second = next_chroma_start(subsampling, chroma_width, row, second);
-        shown = shown + step;
+        second = second + chroma_step(even, chroma_width, row);
         to = to + size;
         row = row + 1;
     }

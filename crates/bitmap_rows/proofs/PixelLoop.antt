@@ -16,7 +16,7 @@ use Rattle.bitmap_format.specs.Planes.{chromaSide}
 use Rattle.bitmap_format.specs.Image.{chromaIndex, concatUpTo}
 use Rattle.bitmap_format.specs.Pixels.{threeBytes}
 use Rattle.bitmap_format.specs.Counting.{IsChromaColumn}
-use Rattle.bitmap_format.proofs.Counting.{counter-stays, counter-full, counter-odd, column-is, column-first, column-next}
+use Rattle.bitmap_format.proofs.Counting.{step-full, step-even, step-odd, column-is, column-first, column-next}
 use Rattle.bitmap_format.proofs.Image.{length-concatUpTo}
 use Rattle.bitmap_rows.specs.Rows.{pixelAt}
 
@@ -95,12 +95,13 @@ module _ (size : ℕ) (d₀ : List ℕ) (f : ℕ → List ℕ) (sized : (i : ℕ
 
 -- not subsampled: the next column
 pub full-next : (column : ℕ) → IsChromaColumn false column column → IsChromaColumn false (column + 1) (column + 1)
-full-next column h width row below = column-next false column column h width row below ∙ counter-full false 1 column column refl
+full-next column h width row below = column-next false column column h width row below ∙ ap (λ (k : ℕ). column + k) (step-full 1 column)
 
 -- subsampled: `pair` is counted at an even column; the odd one behind it has the same counter
 pub pair-right : (pair : ℕ) → IsChromaColumn true (2 * pair) pair → IsChromaColumn true (2 * pair + 1) pair
 pair-right pair h width row below =
-    column-next true (2 * pair) pair h width row below ∙ counter-stays true 1 (2 * pair) pair refl (omega arith)
+    let none = step-even 1 (2 * pair) (omega arith) in
+    column-next true (2 * pair) pair h width row below ∙ omega (arith, none)
 
 -- and the column behind both the next
 pub pair-next : (pair : ℕ) → IsChromaColumn true (2 * pair) pair → IsChromaColumn true (2 * (pair + 1)) (pair + 1)
@@ -114,7 +115,7 @@ pair-next pair h = rw (← behind) next
 
     next : IsChromaColumn true (2 * pair + 1 + 1) (pair + 1)
     next width row below =
-        column-next true (2 * pair + 1) pair (pair-right pair h) width row below ∙ counter-odd true 1 (2 * pair + 1) pair odd
+        column-next true (2 * pair + 1) pair (pair-right pair h) width row below ∙ ap (λ (k : ℕ). pair + k) (step-odd true 1 (2 * pair + 1) odd)
 
 pairs-counted : (pairs : ℕ) → IsChromaColumn true (2 * pairs) pairs
 pairs-counted zero = column-first true

@@ -14,18 +14,18 @@ use Rattle.bitmap_format.specs.Image.{imageRow, writeRows}
 use Rattle.bitmap_format.specs.Counting.{IsChromaStart}
 use Rattle.bitmap_format.proofs.Counting.{start-first}
 use Rattle.bitmap_rows.proofs.Rows.{row-written}
-use Rattle.bitmap_image.proofs.ImageLoop.{Areas, areas, Rooms, rooms, PartRoom, image-room, row-is, index-first, index-next, index-none, chroma-step, ImageInvariant, image-start, image-step, image-end, row-size-is}
+use Rattle.bitmap_image.proofs.ImageLoop.{Areas, areas, Rooms, rooms, PartRoom, image-room, row-is, index-first, index-next, chroma-next, step-max, ImageInvariant, image-start, image-step, image-end, row-size-is}
 use Rattle.bitmap_image.proofs.AlphaRows.{three-byte-row-is}
 use borrow.Author.Needs.{needs}
 use Rattle.bitmap_image.proofs.rgb24.write_rgb24_rows.Statement.{statement}
 use Rattle.bitmap_image.proofs.rgb24.write_rgb24_rows.Tie as tie
 
 abbrev Inv-loop : tie.InvT-loop
-Inv-loop definition flagged planes image₀ width height subsampling chroma-width chroma-size size row₀ first₀ second₀ to₀ image row first second to =
-    (row ≤ height) × (first ≡ row * width) × IsChromaStart (subsampled definition) width (width * height) row second × (to ≡ row * size) × ImageInvariant image₀ image row size (imageRow threeBytes definition flagged width height planes [])
+Inv-loop definition flagged planes image₀ width height subsampling chroma-width chroma-size size even row₀ to₀ second₀ third₀ image row to second third =
+    (row ≤ height) × (to ≡ row * size) × IsChromaStart (subsampled definition) width (width * height) row second × IsChromaStart (subsampled definition) width (width * height + chroma-size) row third × ImageInvariant image₀ image row size (imageRow threeBytes definition flagged width height planes [])
 
 abbrev μ-loop : tie.MeasureT-loop
-μ-loop definition flagged planes image₀ width height subsampling chroma-width chroma-size size row₀ first₀ second₀ to₀ image row first second to = height - row
+μ-loop definition flagged planes image₀ width height subsampling chroma-width chroma-size size even row₀ to₀ second₀ third₀ image row to second third = height - row
 
 -- the sides of a chroma plane
 cw-is : (c : tie.After-chroma-side2 Inv-loop μ-loop) → c .before .chroma-side .result ≡ chromaSide (subsampled (c .before .before .before .before .before .args .definition)) (c .before .before .before .before .before .args .width)
@@ -41,17 +41,22 @@ sizes c =
     areas (subsampled (s .args .definition)) (s .args .width) (s .args .height) _ _ _ (s .pre .1) (s .pre .2) (cw-is c) (ch-is c) (s .pre .3)
 
 room : (c : tie.In-loop Inv-loop μ-loop)
-    → Rooms (c .before .before .before .before .before .before .before .args .width) (c .before .before .before .before .before .before .before .args .height) (c .before .before .before .chroma-side .result) (c .before .before .chroma-side2 .result) (c .before .loop .first) (c .before .loop .second) (length (c .before .before .before .before .before .before .before .args .planes .now))
+    → Rooms (c .before .before .before .before .before .before .before .before .args .width) (c .before .before .before .before .before .before .before .before .args .height) (c .before .loop .row) (c .before .before .before .before .chroma-side .result) (c .before .before .before .chroma-side2 .result) (c .before .loop .second) (c .before .loop .third) (length (c .before .before .before .before .before .before .before .before .args .planes .now))
 room c =
-    let s = c .before .before .before .before .before .before .before in
-    rooms (subsampled (s .args .definition)) (s .args .width) (s .args .height) _ _ _ (s .pre .1) (s .pre .2) (cw-is (c .before .before)) (ch-is (c .before .before)) (s .pre .3) (c .before .loop .row) _ _ (c .loop-test .taken) (c .before .loop .inv .1) (c .before .loop .inv .2)
-
-fits : (c : tie.In-loop Inv-loop μ-loop) → PartRoom (c .before .loop .to) (3 * c .before .before .before .before .before .before .before .args .width) (length (c .before .loop .image))
-fits c =
-    let s = c .before .before .before .before .before .before .before in
+    let s = c .before .before .before .before .before .before .before .before in
     let l = c .before .loop in
-    let whole = image-room threeBytes (l .row) (s .args .width) (s .args .height) (length (s .args .image .now)) (3 * s .args .width) (l .to) (c .loop-test .taken) (s .pre .1) (s .pre .2) refl (s .pre .4) (l .inv .3) in
+    rooms (subsampled (s .args .definition)) (s .args .width) (s .args .height) _ _ _ (s .pre .1) (s .pre .2) (cw-is (c .before .before .before)) (ch-is (c .before .before .before)) (s .pre .3) (l .row) _ _ (c .loop-test .taken) (l .inv .2) (l .inv .3)
+
+fits : (c : tie.In-loop Inv-loop μ-loop) → PartRoom (c .before .loop .to) (3 * c .before .before .before .before .before .before .before .before .args .width) (length (c .before .loop .image))
+fits c =
+    let s = c .before .before .before .before .before .before .before .before in
+    let l = c .before .loop in
+    let whole = image-room threeBytes (l .row) (s .args .width) (s .args .height) (length (s .args .image .now)) (3 * s .args .width) (l .to) (c .loop-test .taken) (s .pre .1) (s .pre .2) refl (s .pre .4) (l .inv .1) in
     record { fits = omega (arith, whole .fits, l .inv .4 .len); small = whole .small }
+
+-- the step of the counters is at most the width of a chroma plane
+step-most : (c : tie.After-chroma-step Inv-loop μ-loop) → c .chroma-step .result ≤ c .before .before .before .before .before .before .before .before .before .before .before .before .chroma-side .result
+step-most c = step-max (c .before .before .before .before .before .before .before .before .before .before .before .before .before .has-subsampled-chroma .result) (c .before .before .before .before .before .before .before .before .before .loop .row) (c .before .before .before .before .before .before .before .before .before .before .before .before .chroma-side .result) (c .before .before .before .before .before .before .before .before .before .before .even-step .result) (c .chroma-step .result) (c .before .before .before .before .before .before .before .before .before .before .even-step .ensures) (c .chroma-step .ensures)
 
 has-subsampled-chroma-requires : tie.Need-has-subsampled-chroma-requires Inv-loop μ-loop
 has-subsampled-chroma-requires c κs = search needs
@@ -68,11 +73,20 @@ mul-chroma-size c = omega (arith, sizes c)
 mul-size : tie.Need-mul-size Inv-loop μ-loop
 mul-size c = let s = c .before .before .before .before .before in omega (arith, s .pre .1)
 
+even-step-requires : tie.Need-even-step-requires Inv-loop μ-loop
+even-step-requires c κs = search needs
+
 mul-second : tie.Need-mul-second Inv-loop μ-loop
-mul-second c = let s = c .before .before .before .before .before in omega (arith, area-max (s .args .width) (s .args .height) (s .pre .1) (s .pre .2))
+mul-second c = let s = c .before .before .before .before .before .before in omega (arith, area-max (s .args .width) (s .args .height) (s .pre .1) (s .pre .2))
+
+add-third : tie.Need-add-third Inv-loop μ-loop
+add-third c = omega (arith, sizes (c .before))
 
 loop-holds : tie.Need-loop-holds Inv-loop μ-loop
-loop-holds c = (omega arith, index-first _, start-first _ _ _, index-first _, image-start _ _ _)
+loop-holds c = (omega arith, index-first _, start-first _ _ _, start-first _ _ _, image-start _ _ _)
+
+mul-write-rgb24-row : tie.Need-mul-write-rgb24-row Inv-loop μ-loop
+mul-write-rgb24-row c = omega (arith, room c)
 
 sub-write-rgb24-row : tie.Need-sub-write-rgb24-row Inv-loop μ-loop
 sub-write-rgb24-row c = omega (arith, room c)
@@ -91,9 +105,6 @@ part-write-rgb24-row-start-2 c = omega (arith, room (c .before))
 
 part-write-rgb24-row-end-2 : tie.Need-part-write-rgb24-row-end-2 Inv-loop μ-loop
 part-write-rgb24-row-end-2 c = omega (arith, room (c .before))
-
-add-write-rgb24-row : tie.Need-add-write-rgb24-row Inv-loop μ-loop
-add-write-rgb24-row c = omega (arith, room (c .before .before))
 
 sub-write-rgb24-row-3 : tie.Need-sub-write-rgb24-row-3 Inv-loop μ-loop
 sub-write-rgb24-row-3 c = omega (arith, room (c .before .before))
@@ -116,14 +127,17 @@ part-write-rgb24-row-end-4 c = omega (arith, fits (c .before .before .before))
 write-rgb24-row-requires : tie.Need-write-rgb24-row-requires Inv-loop μ-loop
 write-rgb24-row-requires c κs = search needs
 
-add-first : tie.Need-add-first Inv-loop μ-loop
-add-first c = omega (arith, room (c .before .before .before .before .before .before .before))
+chroma-step-requires : tie.Need-chroma-step-requires Inv-loop μ-loop
+chroma-step-requires c κs = search needs
 
-next-chroma-start-requires : tie.Need-next-chroma-start-requires Inv-loop μ-loop
-next-chroma-start-requires c κs = omega (arith, room (c .before .before .before .before .before .before .before))
+add-second : tie.Need-add-second Inv-loop μ-loop
+add-second c = omega (arith, room (c .before .before .before .before .before .before .before .before), step-most c)
+
+add-third-2 : tie.Need-add-third-2 Inv-loop μ-loop
+add-third-2 c = omega (arith, room (c .before .before .before .before .before .before .before .before), step-most c)
 
 add-to : tie.Need-add-to Inv-loop μ-loop
-add-to c = omega (arith, fits (c .before .before .before .before .before .before .before .before), c .before .before .before .before .before .before .before .before .before .before .before .before .before .before .before .pre .1)
+add-to c = omega (arith, fits (c .before .before .before .before .before .before .before .before), c .before .before .before .before .before .before .before .before .before .before .before .before .before .before .before .before .pre .1)
 
 add-row : tie.Need-add-row Inv-loop μ-loop
 add-row c = omega arith
@@ -134,27 +148,27 @@ loop-less c = omega arith
 loop-again : tie.Need-loop-again Inv-loop μ-loop
 loop-again c =
     let i = c .before .before .before .before .before .before .before .before in
-    let s = i .before .before .before .before .before .before .before in
+    let s = i .before .before .before .before .before .before .before .before in
     let a = s .args in
     let l = i .before .loop in
     let w = c .before .before .before .write-rgb24-row in
-    let cw = i .before .before .before .chroma-side .result in
-    let ch = i .before .before .chroma-side2 .result in
-    let second = l .second in
-    let third = second + cw * ch in
-    let columns = cw-is (i .before .before) in
+    let cw = i .before .before .before .before .chroma-side .result in
+    let ch = i .before .before .before .chroma-side2 .result in
+    let columns = cw-is (i .before .before .before) in
+    let even = i .before .before .even-step .ensures in
+    let flag = i .before .before .before .before .before .has-subsampled-chroma .ensures in
     let r = room i in
-    let written = row-written threeBytes (a .definition) (a .flagged) (suffix (a .planes .now) (l .first)) (suffix (a .planes .now) second) (suffix (a .planes .now) third) [] (a .width) (suffix (l .image) (l .to)) (s .pre .0)
-    (suffix-room (a .planes .now) (l .first) (a .width) (omega (arith, r)))
-    (rw (← columns) (suffix-room (a .planes .now) second cw (omega (arith, r))))
-    (rw (← columns) (suffix-room (a .planes .now) third cw (omega (arith, r))))
+    let written = row-written threeBytes (a .definition) (a .flagged) (suffix (a .planes .now) (l .row * a .width)) (suffix (a .planes .now) (l .second)) (suffix (a .planes .now) (l .third)) [] (a .width) (suffix (l .image) (l .to)) (s .pre .0)
+    (suffix-room (a .planes .now) (l .row * a .width) (a .width) (omega (arith, r)))
+    (rw (← columns) (suffix-room (a .planes .now) (l .second) cw (omega (arith, r))))
+    (rw (← columns) (suffix-room (a .planes .now) (l .third) cw (omega (arith, r))))
     (omega arith) (suffix-room (l .image) (l .to) (3 * a .width) (fits i .fits)) in (
       omega arith,
-      index-next (l .row) (a .width) (l .first) (l .inv .1),
-      chroma-step _ _ (a .width) (a .width * a .height) (l .row) cw second _ (i .before .before .before .before .has-subsampled-chroma .ensures) columns (l .inv .2) (c .next-chroma-start .ensures),
-      index-next (l .row) (3 * a .width) (l .to) (l .inv .3),
-      image-step _ (l .image) _ _ (l .row) (3 * a .width) (l .to) _ (l .inv .4) (l .inv .3) (w .ensures ∙ written)
-          (row-is threeBytes (a .definition) (a .flagged) (a .planes .now) [] (a .width) (a .height) (l .row) 0 cw ch (l .first) second 0 columns (ch-is (i .before .before)) (l .inv .1) (l .inv .2) (index-none (l .row))
+      index-next (l .row) (3 * a .width) (l .to) (l .inv .1),
+      chroma-next _ _ (a .width) (a .width * a .height) (l .row) cw _ _ (l .second) flag columns even (c .chroma-step .ensures) (l .inv .2),
+      chroma-next _ _ (a .width) (a .width * a .height + cw * ch) (l .row) cw _ _ (l .third) flag columns even (c .chroma-step .ensures) (l .inv .3),
+      image-step _ (l .image) _ _ (l .row) (3 * a .width) (l .to) _ (l .inv .4) (l .inv .1) (w .ensures ∙ written)
+          (row-is threeBytes (a .definition) (a .flagged) (a .planes .now) [] (a .width) (a .height) (l .row) 0 cw ch (l .second) (l .third) columns (ch-is (i .before .before .before)) (l .inv .2) (l .inv .3)
           ∙ three-byte-row-is (a .definition) (a .flagged) (a .width) (a .height) (a .planes .now) (l .row)) (w .kept .1 .1 .1 .1 .1 .0),
     )
 
@@ -163,7 +177,7 @@ same-length c = omega arith
 
 returns : tie.Need-returns Inv-loop μ-loop
 returns c =
-    let a = c .before .before .before .before .before .before .before .args in
+    let a = c .before .before .before .before .before .before .before .before .args in
     let l = c .before .loop in
     image-end _ _ _ _ _ _ (l .inv .4) (omega arith)
     ∙ ap (λ (k : ℕ). writeRows k (imageRow threeBytes (a .definition) (a .flagged) (a .width) (a .height) (a .planes .now) []) (a .height) (a .image .now)) (row-size-is threeBytes (a .width) _ refl)
@@ -179,15 +193,17 @@ write-rgb24-rows-spec =
     chroma-side-requires-2
     mul-chroma-size
     mul-size
+    even-step-requires
     mul-second
+    add-third
     loop-holds
+    mul-write-rgb24-row
     sub-write-rgb24-row
     part-write-rgb24-row-start
     part-write-rgb24-row-end
     sub-write-rgb24-row-2
     part-write-rgb24-row-start-2
     part-write-rgb24-row-end-2
-    add-write-rgb24-row
     sub-write-rgb24-row-3
     part-write-rgb24-row-start-3
     part-write-rgb24-row-end-3
@@ -195,8 +211,9 @@ write-rgb24-rows-spec =
     part-write-rgb24-row-start-4
     part-write-rgb24-row-end-4
     write-rgb24-row-requires
-    add-first
-    next-chroma-start-requires
+    chroma-step-requires
+    add-second
+    add-third-2
     add-to
     add-row
     loop-less
