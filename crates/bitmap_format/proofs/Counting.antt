@@ -139,7 +139,10 @@ no-width false row = sym (mul-zero (chromaIndex false row))
 
 start-counted : (s : Bool) (width row : ℕ) → countedPixel s width (row * width) .chromaStart ≡ chromaIndex s row * chromaSide s width
 start-counted s zero row = ap (λ (n : ℕ). countedPixel s 0 n .chromaStart) (mul-zero row) ∙ no-width s row
-start-counted s (suc w) row = ap (λ (p : CountedPixel). p .chromaStart) (row-counted s (suc w) row (omega arith))
+start-counted s (suc w) row =
+    let first : row * suc w ≡ row * suc w + 0 = omega arith in
+    ap (λ (n : ℕ). countedPixel s (suc w) n .chromaStart) first
+    ∙ ap (λ (p : CountedPixel). p .chromaStart) (chroma-index-by-counting s (suc w) (suc row) row 0 (omega arith) (omega arith) .pixel)
 
 pub start-is : (s : Bool) (width offset row counter : ℕ) → IsChromaStart s width offset row counter → counter ≡ offset + chromaIndex s row * chromaSide s width
 start-is s width offset row counter e = sym e ∙ ap (λ (k : ℕ). offset + k) (start-counted s width row)
@@ -161,11 +164,12 @@ start-next s width offset row counter e =
 
 -- ---- the counter of the loops over columns
 
-pub column-is : (s : Bool) (column counter : ℕ) → IsChromaColumn s column counter → counter ≡ chromaIndex s column
-column-is s column counter e = sym (e (suc column) 0 (omega arith)) ∙ ap (λ (p : CountedPixel). p .chromaColumn) (pixel-counted s (suc column) 0 column (omega arith))
-
 column-counted : (s : Bool) (column : ℕ) → IsChromaColumn s column (chromaIndex s column)
-column-counted s column width row h = ap (λ (p : CountedPixel). p .chromaColumn) (pixel-counted s width row column h)
+column-counted s column width row h =
+    ap (λ (p : CountedPixel). p .chromaColumn) (chroma-index-by-counting s width (suc row) row column (omega arith) h .pixel)
+
+pub column-is : (s : Bool) (column counter : ℕ) → IsChromaColumn s column counter → counter ≡ chromaIndex s column
+column-is s column counter e = sym (e (suc column) 0 (omega arith)) ∙ column-counted s column (suc column) 0 (omega arith)
 
 pub column-first : (s : Bool) → IsChromaColumn s 0 0
 column-first s width row h = column-counted s 0 width row h ∙ first-index s
