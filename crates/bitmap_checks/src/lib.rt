@@ -1,5 +1,7 @@
 // The checks before a picture is unpacked: refusals 1 to 6 (FORMAT 8). They depend on numbers alone, so they are a crate of their own: nothing that
 // reads or writes a slice is proved again when a check changes.
+#![tactic(auto)]
+
 ghost use Rattle.std.specs.Prelude.{◌≡◌, ◌≤◌};
 ghost use Rattle.rle_format.specs.Answer.{counted};
 ghost use Rattle.bitmap_format.specs.Checks.{first_refusal_of};

@@ -1,4 +1,6 @@
 // The colour of an AYCoCg pixel (FORMAT 6.4, 6.5; MS-RDPEGDI 3.1.9.1.2).
+#![tactic(auto)]
+
 ghost use Rattle.std.specs.Prelude.{◌≡◌, ◌≤◌};
 ghost use Rattle.bitmap_format.specs.Colour.{chroma_value_of, clip, ycocg};
 ghost use Rattle.bitmap_color.specs.ColourOrBlack.{colour_or_black};
@@ -6,7 +8,7 @@ ghost use Rattle.bitmap_color.specs.ColourOrBlack.{colour_or_black};
 use bitmap_format::Rgb;
 
 // What the colours of a picture depend on besides its samples.
-#[derive(Drop)]
+#[derive(Clone, Copy)]
 pub struct AYCoCgParams {
     pub color_loss_level: u8,
     pub chroma_subsampling: bool,

@@ -1,4 +1,6 @@
 // Unpacks a picture from its body (FORMAT 2, 6; MS-RDPEGDI 3.1.9.1), to pixels of three or of four bytes: IronRDP's rdp6/bitmap_stream/decoder.rs.
+#![tactic(auto)]
+
 ghost use Rattle.std.specs.Prelude.{◌≡◌, true, false, ◌≤◌, length, drop};
 ghost use Rattle.rle_format.specs.Sides.{AllowedSides};
 ghost use Rattle.rle_format.specs.Answer.{to_answer};

@@ -1,4 +1,6 @@
 // Packs a picture (FORMAT 7): IronRDP's rdp6/bitmap_stream/encoder.rs, without the header byte.
+#![tactic(auto)]
+
 mod planes;
 mod raw;
 mod rle;

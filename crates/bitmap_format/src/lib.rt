@@ -1,5 +1,7 @@
 // Pictures (FORMAT 1, 2; MS-RDPEGDI 2.2.2.5.1): the header record, the types of the answers, and the sizes. The definitions that the contracts of
 // decoder and encoder cite are in specs/.
+#![tactic(auto)]
+
 mod plane_sizes;
 
 ghost use Rattle.std.specs.Prelude.{◌≡◌, ℕ, ◌≤◌};
@@ -14,7 +16,7 @@ use plane_sizes::{is_within, min_color_planes_size, min_plane_size};
 use rle_format::Refusal;
 
 // The plane definition (FORMAT 1.3). The names are IronRDP's.
-#[derive(Drop)]
+#[derive(Clone, Copy)]
 pub enum ColorPlaneDefinition {
     Argb,
     AYCoCg {
@@ -24,7 +26,7 @@ pub enum ColorPlaneDefinition {
 }
 
 // The header record (FORMAT 1.3).
-#[derive(Drop)]
+#[derive(Clone, Copy)]
 pub struct BitmapStreamHeader {
     pub enable_rle_compression: bool,
     pub use_alpha: bool,
@@ -32,7 +34,7 @@ pub struct BitmapStreamHeader {
 }
 
 // The colour of a pixel.
-#[derive(Drop)]
+#[derive(Clone, Copy)]
 pub struct Rgb {
     pub r: u8,
     pub g: u8,
@@ -40,14 +42,14 @@ pub struct Rgb {
 }
 
 // The answer of unpacking a picture: the number of bytes written to the image, or the refusal.
-#[derive(Drop)]
+#[derive(Clone, Copy)]
 pub enum Decoded {
     Written(usize),
     Refused(Refusal),
 }
 
 // The answer of packing a picture: the number of bytes written and the header record to send, or the refusal.
-#[derive(Drop)]
+#[derive(Clone, Copy)]
 pub enum Encoded {
     Written {
         bytes: usize,

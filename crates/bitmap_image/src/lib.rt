@@ -1,4 +1,6 @@
 // The image of a picture, from its planes (FORMAT 6): pixels of three or of four bytes.
+#![tactic(auto)]
+
 mod chroma;
 mod rgb24;
 mod rows;

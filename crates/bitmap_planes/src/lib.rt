@@ -1,4 +1,6 @@
 // Unpacking the RLE planes of a picture into the work area (FORMAT 2.4, 2.5).
+#![tactic(auto)]
+
 ghost use Rattle.std.specs.Prelude.{◌≡◌, ◌≤◌, min, length, drop};
 ghost use Rattle.rle_format.specs.Answer.{to_answer, add_count};
 ghost use Rattle.rle_format.specs.Slice.{write_at};

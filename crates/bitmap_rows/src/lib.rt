@@ -1,5 +1,7 @@
 // A row of the image (FORMAT 6), from a row of samples of each plane: three-byte pixels, and four-byte pixels in a layout. A row that does not fit
 // its slices, or whose loss level is not one of 1 to 7, is not written.
+#![tactic(auto)]
+
 mod chroma;
 mod join;
 mod pixels;

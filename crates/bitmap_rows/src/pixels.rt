@@ -13,7 +13,7 @@ use bitmap_format::{ColorPlaneDefinition, Rgb};
 use pixel_format::PixelLayout;
 
 // The bytes of a pixel, in their order.
-#[derive(Drop)]
+#[derive(Clone, Copy)]
 pub(crate) struct Quad {
     first: u8,
     second: u8,

@@ -1,5 +1,7 @@
 // Whole streams (FORMAT 1.7, 7.6; MS-RDPEGDI 2.2.2.5.1): the header byte, and the body, which bitmap_decoder unpacks and bitmap_encoder packs. The
 // names are IronRDP's.
+#![tactic(auto)]
+
 mod header;
 
 ghost use Rattle.std.specs.Prelude.{◌≡◌, true, false, ℕ, ◌≤◌, ◌<◌, length};
@@ -24,7 +26,7 @@ use pixel_format::{PixelFormat, PixelLayout};
 use rle_format::{Packed, Refusal};
 
 // A stream, split: the header record, and the index where the body ends, which begins at index 1; or the refusal.
-#[derive(Drop)]
+#[derive(Clone, Copy)]
 pub enum Split {
     Body {
         header: BitmapStreamHeader,

@@ -11,7 +11,7 @@ const MAX_FILE_SIZE: usize = 1_048_576;
 pub const BUFFER_SIZE: usize = MAX_FILE_SIZE + 1;
 
 // Whether a file could not be loaded, and its size, which then is 0.
-#[derive(Drop)]
+#[derive(Clone, Copy)]
 pub struct Loaded {
     pub failed: bool,
     pub size: usize,
@@ -19,7 +19,7 @@ pub struct Loaded {
 
 // A case of a text: its line, with the newline, is `start..end`. After the last case, where there is none, `start` is `end`. The
 // number of the line and the tally of the cases before it are for the report.
-#[derive(Drop)]
+#[derive(Clone, Copy)]
 pub struct Position {
     pub start: usize,
     pub end: usize,

@@ -18,7 +18,7 @@ const UNWRITTEN_BYTE: u8 = 0xEE;
 
 // A slice after the call, compared with the line: whether its bytes are the expected ones, and whether its guard bytes are
 // unchanged.
-#[derive(Drop)]
+#[derive(Clone, Copy)]
 pub struct Comparison {
     pub bytes_equal: bool,
     pub guards_unchanged: bool,

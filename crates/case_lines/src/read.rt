@@ -12,42 +12,42 @@ use pixel_format::PixelLayout;
 pub const MAX_NUMBERS: usize = 9;
 
 // A decimal number.
-#[derive(Drop)]
+#[derive(Clone, Copy)]
 pub enum Number {
     Value { value: usize, next: usize },
     Malformed,
 }
 
 // The expected answer of a case.
-#[derive(Drop)]
+#[derive(Clone, Copy)]
 pub enum ParsedAnswer {
     Value { answer: Answer, next: usize },
     Malformed,
 }
 
 // The layout of a case's pixels.
-#[derive(Drop)]
+#[derive(Clone, Copy)]
 pub enum ParsedLayout {
     Value(PixelLayout),
     Malformed,
 }
 
 // A field of bytes: how many were written to the first bytes of the slice.
-#[derive(Drop)]
+#[derive(Clone, Copy)]
 pub enum Bytes {
     Value { count: usize, next: usize },
     Malformed,
 }
 
 // The value of a field of decimal digits.
-#[derive(Drop)]
+#[derive(Clone, Copy)]
 enum Decimal {
     Value(usize),
     Malformed,
 }
 
 // How many bytes a field of bytes has, repeats included.
-#[derive(Drop)]
+#[derive(Clone, Copy)]
 pub enum Expanded {
     Count(usize),
     Malformed,
@@ -55,7 +55,7 @@ pub enum Expanded {
 
 // One entry of a field of bytes: a byte, how often it is repeated, and the index after the entry. In a malformed entry `times`
 // is 0.
-#[derive(Drop)]
+#[derive(Clone, Copy)]
 struct Entry {
     byte: u8,
     times: usize,

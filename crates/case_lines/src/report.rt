@@ -7,14 +7,14 @@ use libc::STDOUT_FILENO;
 use rle_format::Refusal;
 
 // The answer of a call: a number of bytes, or the number of a refusal.
-#[derive(Drop)]
+#[derive(Clone, Copy)]
 pub struct Answer {
     pub refused: bool,
     pub number: usize,
 }
 
 // The result of replaying a line.
-#[derive(Drop)]
+#[derive(Clone, Copy)]
 pub enum LineResult {
     Equal,
     // The two answers; whether the returned header record, if there is one, is the expected one; whether each slice that could be
@@ -33,7 +33,7 @@ pub enum LineResult {
 const MAX_REPORTED_LINES: usize = 10;
 
 // How many lines had each result. Comments are not counted.
-#[derive(Drop)]
+#[derive(Clone, Copy)]
 pub(crate) struct Tally {
     pub(crate) equal: usize,
     pub(crate) different: usize,

@@ -20,14 +20,14 @@ use pixel_format::PixelLayout;
 use rle_format::Packed;
 
 // What a case packs. It is the same for all cases of a file.
-#[derive(Drop)]
+#[derive(Clone, Copy)]
 pub(crate) enum SourceKind {
     Channels,
     Pixels,
 }
 
 // What it is packed into. This, too, is the same for all cases of a file.
-#[derive(Drop)]
+#[derive(Clone, Copy)]
 pub(crate) enum ResultKind {
     Body,
     Stream,
@@ -64,7 +64,7 @@ const SENT_DEFINITION: usize = 2;
 const SENT_COUNT: usize = 3;
 
 // The header record that a call should return. It is not used for a stream.
-#[derive(Drop)]
+#[derive(Clone, Copy)]
 struct ExpectedHeader {
     rle: bool,
     alpha: bool,
@@ -72,7 +72,7 @@ struct ExpectedHeader {
 }
 
 // The numbers of a case, and the index of its first source field. The layout is not used for channels.
-#[derive(Drop)]
+#[derive(Clone, Copy)]
 struct Case {
     source: SourceKind,
     result: ResultKind,
@@ -87,28 +87,28 @@ struct Case {
     next: usize,
 }
 
-#[derive(Drop)]
+#[derive(Clone, Copy)]
 enum ParsedCase {
     Value(Case),
     Malformed,
 }
 
 // What a call returned: its answer, and whether the header record, if there is one, is that of the line.
-#[derive(Drop)]
+#[derive(Clone, Copy)]
 struct Returned {
     answer: Answer,
     header_equal: bool,
 }
 
 // How many bytes a field has, repeats included, and the index after it.
-#[derive(Drop)]
+#[derive(Clone, Copy)]
 struct Field {
     count: usize,
     next: usize,
 }
 
 // The number of bytes of each source field, and the index after the last one. A line of pixels has its number in `r`.
-#[derive(Drop)]
+#[derive(Clone, Copy)]
 struct SourceSizes {
     r: usize,
     g: usize,

@@ -1,5 +1,7 @@
 // Replays the stored cases of unpacking pictures, the files in data/, and prints, for each file, how many gave the stored result. A
 // function that gives another result, or a damaged data file, changes what is printed.
+#![tactic(auto)]
+
 mod picture;
 
 use case_lines::file;

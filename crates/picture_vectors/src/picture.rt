@@ -18,14 +18,14 @@ use case_lines::{guarded, read, report};
 use pixel_format::{PixelFormat, PixelLayout};
 
 // What a case unpacks. It is the same for all cases of a file.
-#[derive(Drop)]
+#[derive(Clone, Copy)]
 pub(crate) enum SourceKind {
     Body,
     Stream,
 }
 
 // What it is unpacked to: three bytes a pixel, or four in a layout. This, too, is the same for all cases of a file.
-#[derive(Drop)]
+#[derive(Clone, Copy)]
 pub(crate) enum ImageKind {
     Rgb24,
     Pixels,
@@ -68,14 +68,14 @@ const BODY_SIZES_COUNT: usize = 2;
 const STREAM_SIZES_COUNT: usize = 3;
 
 // What the calls of a case return. The minimum size of the work area is 0 for a body, whose line does not have it.
-#[derive(Drop)]
+#[derive(Clone, Copy)]
 struct Returned {
     work_size: usize,
     answer: Answer,
 }
 
 // The numbers of a case, and the index of the field of its body or stream. The header record is not used for a stream.
-#[derive(Drop)]
+#[derive(Clone, Copy)]
 struct Case {
     source: SourceKind,
     format: PixelFormat,
@@ -88,20 +88,20 @@ struct Case {
     next: usize,
 }
 
-#[derive(Drop)]
+#[derive(Clone, Copy)]
 enum ParsedCase {
     Value(Case),
     Malformed,
 }
 
-#[derive(Drop)]
+#[derive(Clone, Copy)]
 enum ParsedHeader {
     Value(BitmapStreamHeader),
     Malformed,
 }
 
 // A slice after the call, compared with a field of the line, and the index after that field.
-#[derive(Drop)]
+#[derive(Clone, Copy)]
 enum FieldComparison {
     Value { comparison: Comparison, next: usize },
     Malformed,

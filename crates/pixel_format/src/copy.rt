@@ -8,7 +8,7 @@ use crate::words::copy_block;
 use crate::{ABgrChannels, ARgbChannels, BgrAChannels, Channel, PixelLayout, RgbAChannels};
 
 // The offset of each channel in a pixel.
-#[derive(Drop)]
+#[derive(Clone, Copy)]
 pub(crate) struct Offsets {
     pub r: usize,
     pub g: usize,

@@ -1,4 +1,6 @@
 // Pixels and channels (FORMAT 7.1): the layouts of four-byte pixels, and the samples of a channel, from a slice of its own or out of pixels.
+#![tactic(auto)]
+
 mod copy;
 mod words;
 
@@ -10,7 +12,7 @@ ghost use Rattle.pixel_format.specs.Channel.{samples_of};
 use copy::{copy_channel, lesser, offset_of};
 
 // Pixels of B, G, R, A: the bytes of a pixel, and the offset of each channel. This name and the next three are IronRDP's.
-#[derive(Drop)]
+#[derive(Clone, Copy)]
 pub struct BgrAChannels {}
 
 impl BgrAChannels {
@@ -26,7 +28,7 @@ impl BgrAChannels {
 }
 
 // Pixels of R, G, B, A.
-#[derive(Drop)]
+#[derive(Clone, Copy)]
 pub struct RgbAChannels {}
 
 impl RgbAChannels {
@@ -42,7 +44,7 @@ impl RgbAChannels {
 }
 
 // Pixels of A, R, G, B.
-#[derive(Drop)]
+#[derive(Clone, Copy)]
 pub struct ARgbChannels {}
 
 impl ARgbChannels {
@@ -58,7 +60,7 @@ impl ARgbChannels {
 }
 
 // Pixels of A, B, G, R.
-#[derive(Drop)]
+#[derive(Clone, Copy)]
 pub struct ABgrChannels {}
 
 impl ABgrChannels {
@@ -74,7 +76,7 @@ impl ABgrChannels {
 }
 
 // The layouts of four-byte pixels, by the order of their bytes.
-#[derive(Drop)]
+#[derive(Clone, Copy)]
 pub enum PixelLayout {
     BgrA,
     RgbA,
@@ -83,13 +85,13 @@ pub enum PixelLayout {
 }
 
 // The pixels of an image that is unpacked: R, G and B, or four bytes in a layout.
-#[derive(Drop)]
+#[derive(Clone, Copy)]
 pub enum PixelFormat {
     Rgb24,
     FourBytes(PixelLayout),
 }
 
-#[derive(Drop)]
+#[derive(Clone, Copy)]
 pub enum Channel {
     R,
     G,
@@ -98,7 +100,7 @@ pub enum Channel {
 }
 
 // Planar: every byte of the slice is a sample of the channel. Pixels: one byte of every pixel is.
-#[derive(Drop)]
+#[derive(Clone, Copy)]
 pub enum Layout {
     Planar,
     Pixels(PixelLayout),
@@ -125,7 +127,7 @@ pub fn read_samples(src: &[u8], layout: Layout, channel: Channel, from: usize, d
     let n = lesser(count - from, dst.len());
     match layout {
         Layout::Planar => {
-            bytes::copy(&src[from..from + n], dst);
+            dst[..n].copy_from_slice(&src[from..from + n]);
         }
         Layout::Pixels(pixels) => copy_channel(src, offset_of(pixels, channel), from, n, dst),
     }

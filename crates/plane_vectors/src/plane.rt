@@ -19,7 +19,7 @@ use rle_format::{Packed, Unpacked};
 use rle_round_trip::RoundTrip;
 
 // What a case calls. It is the same for all cases of a file.
-#[derive(Drop)]
+#[derive(Clone, Copy)]
 pub(crate) enum Operation {
     Unpack,
     Pack,
@@ -30,7 +30,7 @@ pub(crate) enum Operation {
 const PACKED_SIZE: usize = 20_000;
 
 // The numbers of a case, and the index of the source field. Only a round trip has an `end`; in other cases it is 0.
-#[derive(Drop)]
+#[derive(Clone, Copy)]
 struct Case {
     operation: Operation,
     width: usize,
@@ -41,7 +41,7 @@ struct Case {
     next: usize,
 }
 
-#[derive(Drop)]
+#[derive(Clone, Copy)]
 enum ParsedCase {
     Value(Case),
     Malformed,

@@ -1,5 +1,7 @@
 // The C interface of librdp6.a; include/rdp6.h has the prototypes. A slice is passed as a pointer and a length. Each function calls one function of
 // another crate and returns its answer as one number (FORMAT 8.4). Only an unknown layout is refused here.
+#![tactic(auto)]
+
 ghost use Rattle.std.specs.Prelude.{◌≡◌, true, false, ℕ, ◌≤◌, ◌<◌, length};
 ghost use Rattle.rle_format.specs.Answer.{refused, number, to_answer, packed_to_answer};
 ghost use Rattle.rle_format.specs.Sides.{check_sides_of};
@@ -124,7 +126,7 @@ fn header_of(
 }
 
 // The layout of the pixels that a C function is called with.
-#[derive(Drop)]
+#[derive(Clone, Copy)]
 pub(crate) enum CLayout {
     Known(PixelLayout),
     Unknown,

@@ -10,8 +10,8 @@ pub(crate) fn copy_16(src: &[u8], from: usize, codes: &mut [u8], at: usize)
     ensures { codes.new ≡ write_at codes.old at (take 16 (drop from src.now)) }
 {
     let mut sixteen = [0u8; 16];
-    bytes::copy(&src[from..from + 16], &mut sixteen[0..]);
-    bytes::copy(&sixteen[0..], &mut codes[at..]);
+    sixteen.copy_from_slice(&src[from..from + 16]);
+    codes[at..at + 16].copy_from_slice(&sixteen);
 }
 
 // Writes `run` copies of a value to codes from index `at` on.

@@ -32,7 +32,7 @@ pub(crate) fn restore_row(codes: &[u8], dst: &mut [u8], start: usize, width: usi
     ensures { dst.new ≡ write_at dst.old start (restore_row_of (row_above dst.old start width) (take width codes.now)) }
 {
     if start == 0 {
-        bytes::copy(&codes[0..width], dst);
+        dst[0..width].copy_from_slice(&codes[0..width]);
         return;
     }
     let above = start - width;

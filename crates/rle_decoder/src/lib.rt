@@ -1,4 +1,6 @@
 // Unpacks an RLE plane (FORMAT 3, 4; MS-RDPEGDI 3.1.9.2): the decoding half of IronRDP's rdp6/rle.rs.
+#![tactic(auto)]
+
 mod copy;
 mod delta;
 mod near_end;
@@ -37,7 +39,7 @@ fn decode(src: &[u8], dst: &mut [u8], width: usize, height: usize, codes: &mut [
         let answer = row.answer;
         let Unpacked::Read(read) = answer else {
             let end = row.column;
-            bytes::copy(&codes[0..end], &mut dst[start..]);
+            dst[start..start + end].copy_from_slice(&codes[0..end]);
             return answer;
         };
         restore_row(codes, dst, start, width);

@@ -53,7 +53,7 @@ fn decompress_last_segment(
     }
     let next = last_decoded_byte(src, at, high, last);
     let start = at + 1;
-    bytes::copy(&src[start..start + high], &mut codes[column..]);
+    codes[column..column + high].copy_from_slice(&src[start..start + high]);
     fill_run(codes, column + high, 16, next);
     NextSegment::Read(high, low, next)
 }

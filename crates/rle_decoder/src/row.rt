@@ -9,7 +9,7 @@ use crate::segment::{NextSegment, decompress_next_segment};
 use rle_format::{Refusal, Unpacked};
 
 // The number of coded values that were read, and the answer.
-#[derive(Drop)]
+#[derive(Clone, Copy)]
 pub(crate) struct Row {
     pub(crate) column: usize,
     pub(crate) answer: Unpacked,

@@ -8,7 +8,7 @@ use crate::copy::{copy_16, fill_run, write_segment};
 use rle_format::Refusal;
 
 // A segment that was read: the number of its raw bytes, its run, and the last byte after it; or the refusal.
-#[derive(Drop)]
+#[derive(Clone, Copy)]
 pub(crate) enum NextSegment {
     Read(usize, usize, u8),
     Refused(Refusal),

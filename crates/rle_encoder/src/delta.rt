@@ -41,7 +41,7 @@ fn code_scanline(r: usize, above: &mut [u8], codes: &mut [u8])
     ensures above { above.new ≡ codes.old }
 {
     if r == 0 {
-        bytes::copy(codes, above);
+        above.copy_from_slice(codes);
     } else {
         delta_row(above, codes);
     }
@@ -65,7 +65,7 @@ fn code_plane_row(samples: &[u8], r: usize, width: usize, codes: &mut [u8])
     ensures { take width codes.new ≡ codes_at width samples.now r }
 {
     if r == 0 {
-        bytes::copy(&samples[0..width], codes);
+        codes[0..width].copy_from_slice(&samples[0..width]);
         return;
     }
     let above = (r - 1) * width;

@@ -1,4 +1,6 @@
 // Packs an RLE plane (FORMAT 5; MS-RDPEGDI 3.1.9.2): the encoding half of IronRDP's rdp6/rle.rs.
+#![tactic(auto)]
+
 mod delta;
 mod row;
 mod runs;

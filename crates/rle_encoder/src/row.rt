@@ -94,7 +94,7 @@ pub(crate) fn encode_next_row(
     if SHORT_ROW < width {
         let bytes = encode_row(codes, width, packed);
         if bytes <= dst.len() - at {
-            bytes::copy(&packed[0..bytes], &mut dst[at..]);
+            dst[at..at + bytes].copy_from_slice(&packed[0..bytes]);
             return Packed::Written(at + bytes);
         }
     }

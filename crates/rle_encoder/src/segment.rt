@@ -15,8 +15,8 @@ fn copy_16(src: &[u8], from: usize, dst: &mut [u8], at: usize)
     ensures { dst.new ≡ write_at dst.old at (take 16 (drop from src.now)) }
 {
     let mut sixteen = [0u8; 16];
-    bytes::copy(&src[from..from + 16], &mut sixteen[0..]);
-    bytes::copy(&sixteen[0..], &mut dst[at..]);
+    sixteen.copy_from_slice(&src[from..from + 16]);
+    dst[at..at + 16].copy_from_slice(&sixteen);
 }
 
 // Writes one segment of up to 15 raw bytes, which begin at index `from` of raw, and a run of up to 15.

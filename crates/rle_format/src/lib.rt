@@ -1,5 +1,7 @@
 // RLE planes (FORMAT 3 to 5; MS-RDPEGDI 2.2.2.5.1.2, 3.1.9.2): the types of the answers. The definitions that the contracts of decoder and
 // encoder cite are in specs/.
+#![tactic(auto)]
+
 ghost use Rattle.std.specs.Prelude.{◌≡◌};
 ghost use Rattle.rle_format.specs.Answer.{number};
 
@@ -7,7 +9,7 @@ ghost use Rattle.rle_format.specs.Answer.{number};
 pub const MAX_SIDE: usize = 8192;
 
 // Why a call is refused (FORMAT 8.1). The names are IronRDP's where it has one.
-#[derive(Drop)]
+#[derive(Clone, Copy)]
 pub enum Refusal {
     ZeroSize,
     TooLarge,
@@ -26,14 +28,14 @@ pub enum Refusal {
 }
 
 // The answer of unpacking a row or a plane: the number of bytes read, or the refusal.
-#[derive(Drop)]
+#[derive(Clone, Copy)]
 pub enum Unpacked {
     Read(usize),
     Refused(Refusal),
 }
 
 // The answer of packing a plane: the number of bytes written, or the refusal.
-#[derive(Drop)]
+#[derive(Clone, Copy)]
 pub enum Packed {
     Written(usize),
     Refused(Refusal),

@@ -1,5 +1,7 @@
 // The prefix theorem (FORMAT 9; demand 3 of the customer): the claim is in specs/, the proof in proofs/. Here it is the contract of a function on
 // real slices.
+#![tactic(auto)]
+
 ghost use Rattle.std.specs.Prelude.{◌≡◌, length};
 ghost use Rattle.rle_format.specs.Slice.{overwrite};
 ghost use Rattle.rle_format.specs.Pack.{pack_plane};
@@ -9,7 +11,7 @@ use rle_decoder::decompress_8bpp_plane;
 use rle_encoder::compress_8bpp_plane;
 use rle_format::{Packed, Refusal, Unpacked};
 
-#[derive(Drop)]
+#[derive(Clone, Copy)]
 pub enum RoundTrip {
     // packing was refused
     NotPacked(Refusal),

@@ -1,4 +1,6 @@
 // Packs one row from its coded values (FORMAT 5.1 to 5.3; MS-RDPEGDI 3.1.9.2). A crate of its own, so that it is proved again in seconds.
+#![tactic(auto)]
+
 mod row;
 pub mod segment;
 

@@ -22,7 +22,7 @@ fn write_literal(raw: &[u8], run: usize, dst: &mut [u8], at: usize) -> Packed
         return Packed::Refused(Refusal::BufferTooSmall);
     }
     dst[at] = (16 * raw_len + run) as u8;
-    bytes::copy(raw, &mut dst[at + 1..]);
+    dst[at + 1..at + 1 + raw_len].copy_from_slice(raw);
     Packed::Written(at + 1 + raw_len)
 }
 
