@@ -1,5 +1,5 @@
 -- What holds for each of the four layouts (document 02, Card 2). proofs/Layouts.antt has the proof. No contract uses these.
-use Rattle.std.specs.Prelude.{ℕ, ◌+◌, ◌<◌, Bool, ◌≡◌, eqb}
+use Rattle.std.specs.Prelude.{ℕ, ◌+◌, ◌<◌, ◌≡◌, eqb}
 use Rattle.rle_format.specs.Choice.{choose}
 use Rattle.pixel_format.specs.declared.PixelLayout.{PixelLayout}
 use Rattle.pixel_format.specs.Channel.{ChannelOffsets, channel_offsets}
