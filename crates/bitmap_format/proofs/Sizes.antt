@@ -15,7 +15,7 @@ use Rattle.pixel_format.specs.declared.PixelLayout.{PixelLayout}
 use Rattle.bitmap_format.specs.declared.BitmapStreamHeader.{BitmapStreamHeader}
 use Rattle.bitmap_format.specs.Planes.{plane_at, subsampled, chroma_side_of, first_plane, second_plane, third_plane, colour_planes, alpha_planes_at, alpha_planes, planes_with_alpha_at}
 use Rattle.bitmap_format.specs.Pixels.{PixelForm, three_bytes, four_bytes, format_to_form, bytes_per_pixel_of, shown_alpha_size_of}
-use Rattle.bitmap_format.specs.Sizes.{sample_count_of, min_plane_size_of, sum_over, min_body_size_of, colour_planes_size, work_size_of, image_size_of}
+use Rattle.bitmap_format.specs.Sizes.{min_plane_size_of, sum_over, min_body_size_of, colour_planes_size, work_size_of, image_size_of}
 
 -- ---- a choice whose test is known
 

@@ -1,6 +1,6 @@
 -- What holds for pictures in both forms of pixels: one claim for each sentence of document 02, Card 2. proofs/PictureClaims.antt has the proofs. No
 -- contract uses these.
-use Rattle.std.specs.Prelude.{ℕ, ◌+◌, ◌*◌, ◌≤◌, ◌<◌, Bool, true, ◌≡◌, List, length, take, drop, get_or}
+use Rattle.std.specs.Prelude.{ℕ, ◌+◌, ◌*◌, ◌≤◌, ◌<◌, true, ◌≡◌, List, length, take, drop, get_or}
 use Rattle.rle_format.specs.Choice.{choose}
 use Rattle.rle_format.specs.Answer.{Answer, counted, refused}
 use Rattle.rle_format.specs.Slice.{overwrite}

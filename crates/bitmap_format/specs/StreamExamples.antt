@@ -1,10 +1,10 @@
 -- Whole streams (FORMAT 1.2, 1.7, 7.6), with results worked out by hand: one constant list, what the definitions compute for each, and what is
 -- expected. proofs/Examples.antt has the one proof.
-use Rattle.std.specs.Prelude.{ℕ, suc, Bool, true, false, List, [], ◌∷◌, ◌++◌, map, length}
+use Rattle.std.specs.Prelude.{ℕ, Bool, true, false, List, [], ◌∷◌, ◌++◌, map, length}
 use Rattle.rle_format.specs.Answer.{Answer, counted, refused}
 use Rattle.rle_format.specs.Examples.{count_from}
 use Rattle.bitmap_format.specs.declared.BitmapStreamHeader.{BitmapStreamHeader}
-use Rattle.bitmap_format.specs.declared.ColorPlaneDefinition.TheVariants.{Argb, AYCoCg}
+use Rattle.bitmap_format.specs.declared.ColorPlaneDefinition.TheVariants.{AYCoCg}
 use Rattle.bitmap_format.specs.HeaderByte.{header_from_byte_of, header_to_byte_of}
 use Rattle.bitmap_format.specs.Picture.{PictureOutcome}
 use Rattle.bitmap_format.specs.PackPicture.{three_planes, four_planes}
