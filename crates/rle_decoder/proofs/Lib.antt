@@ -1,4 +1,5 @@
 mod Appended
+mod Copied
 mod Segments
 mod Restore
 mod RowLoop

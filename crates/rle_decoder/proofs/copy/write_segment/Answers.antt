@@ -1,0 +1,16 @@
+-- `write_segment`: sixteen bytes, of which the raw bytes count, then sixteen copies, of which the run counts. Assumes nothing.
+use Rattle.std.proofs.Common.{◌≡◌, ◌+◌, length, take, drop, replicate, arith, length-drop, length-take-le}
+use Rattle.rle_decoder.proofs.Appended.{appended_copy, appended_fill, appended_then}
+use Rattle.rle_decoder.proofs.copy.write_segment.Goals as goal
+
+pub returns : goal.returns
+returns c =
+    let a = c.args in
+    let copied_to = c.copy_16.new.codes in
+    let filled_to = c.fill_run.new.codes in
+    let xs = take a.raw (drop a.from a.src.now) in
+    let rest = length-drop a.from a.src.now in
+    let n : length xs ≡ a.raw = length-take-le a.raw (drop a.from a.src.now) (omega arith) in
+    let copied = appended_copy a.codes.now copied_to a.src.now a.at a.from a.raw (omega arith) (omega arith) (omega arith) c.copy_16.ensures in
+    let filled = appended_fill copied_to filled_to (a.at + a.raw) 16 a.run a.last (omega arith) (omega arith) c.fill_run.ensures in
+    appended_then a.codes.now copied_to filled_to a.at xs (replicate a.run a.last) copied (rw (← n) at filled)
