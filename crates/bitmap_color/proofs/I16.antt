@@ -22,23 +22,23 @@ difference_fits a b ha hb = go (ltb a b) refl
 pub between_fits : (z : ℤ) (p m : ℕ) → Between z p m → p < 32768 → m ≤ 32768 → SFits w16 z
 between_fits z p m b hp hm = rw b.is (difference_fits b.more b.less (omega (arith, b.most)) (omega (arith, b.least)))
 
--- ---- clip_i16: r and c are the bits of its locals `raised` and `clipped`
+-- ---- clip_i16: r and c are its locals `raised` and `clipped`
 
 -- v, or 0 if v is less
 abbrev pub not_below_zero : ℤ → ℕ
 not_below_zero (pos n) = n
 not_below_zero (negsuc n) = 0
 
-module _ (v : ℤ) (f : SFits w16 v) (r : ℕ) where
-  pub not_below_zero_negative : lt_z (as_i16 v) (pos 0) ≡ true → r ≡ 0 → to_z w16 r ≡ pos (not_below_zero v)
-  not_below_zero_negative e is = ap (to_z w16) is ∙ go v (rw (to_z-of_z f) at e)
+module _ (v : ℤ) (f : SFits w16 v) (r : ℤ) where
+  pub not_below_zero_negative : lt_z (as_i16 v) (pos 0) ≡ true → r ≡ pos 0 → r ≡ pos (not_below_zero v)
+  not_below_zero_negative e is = is ∙ go v (rw (to_z-of_z f) at e)
     where
       go : (v : ℤ) → lt_z v (pos 0) ≡ true → pos 0 ≡ pos (not_below_zero v)
       go (pos n) e = absurd (omega (arith, ltb-true n 0 e))
       go (negsuc n) e = refl
 
-  pub not_below_zero_same : lt_z (as_i16 v) (pos 0) ≡ false → r ≡ of_z w16 v → to_z w16 r ≡ pos (not_below_zero v)
-  not_below_zero_same e is = ap (to_z w16) is ∙ to_z-of_z f ∙ go v (rw (to_z-of_z f) at e)
+  pub not_below_zero_same : lt_z (as_i16 v) (pos 0) ≡ false → r ≡ as_i16 v → r ≡ pos (not_below_zero v)
+  not_below_zero_same e is = is ∙ to_z-of_z f ∙ go v (rw (to_z-of_z f) at e)
     where
       go : (v : ℤ) → lt_z v (pos 0) ≡ false → v ≡ pos (not_below_zero v)
       go (pos n) e = refl
@@ -49,17 +49,17 @@ unfolding clip
 clip_not_below_zero (pos n) = refl
 clip_not_below_zero (negsuc n) = refl
 
-module _ (v : ℤ) (r c : ℕ) (is : to_z w16 r ≡ pos (not_below_zero v)) where
-  pub clip_above_255 : lt_z (pos 255) (to_z w16 r) ≡ true → c ≡ 255 → to_z w16 c ≡ pos (clip v)
+module _ (v r c : ℤ) (is : r ≡ pos (not_below_zero v)) where
+  pub clip_above_255 : lt_z (pos 255) r ≡ true → c ≡ pos 255 → c ≡ pos (clip v)
   unfolding clip
-  clip_above_255 e ec = ap (to_z w16) ec ∙ ap pos (go (not_below_zero v) (rw is at e) ∙ clip_not_below_zero v)
+  clip_above_255 e ec = ec ∙ ap pos (go (not_below_zero v) (rw is at e) ∙ clip_not_below_zero v)
     where
       go : (n : ℕ) → ltb 255 n ≡ true → 255 ≡ clip (pos n)
       go n e = simp e
 
-  pub clip_up_to_255 : lt_z (pos 255) (to_z w16 r) ≡ false → c ≡ r → to_z w16 c ≡ pos (clip v)
+  pub clip_up_to_255 : lt_z (pos 255) r ≡ false → c ≡ r → c ≡ pos (clip v)
   unfolding clip
-  clip_up_to_255 e ec = ap (to_z w16) ec ∙ is ∙ ap pos (go (not_below_zero v) (rw is at e) ∙ clip_not_below_zero v)
+  clip_up_to_255 e ec = ec ∙ is ∙ ap pos (go (not_below_zero v) (rw is at e) ∙ clip_not_below_zero v)
     where
       go : (n : ℕ) → ltb 255 n ≡ false → n ≡ clip (pos n)
       go n e = simp e
@@ -100,10 +100,10 @@ module _ (level byte sum : ℕ) (is : sum ≡ (byte * 2 ^ (level - 1) % 256 + 12
 
 module _ (level y co cg : ℕ) (zo zg : ℤ) (hy : y < 256) (eo : zo ≡ chroma_value_of level co) (eg : zg ≡ chroma_value_of level cg) where
   as_i16_co : as_i16 zo ≡ chroma_value_of level co
-  as_i16_co = to_z-of_z (rw eo (between_fits (chroma_value_of level co) 127 128 (chroma_value_range level co) (omega arith) (omega arith))) ∙ eo
+  as_i16_co = to_z-of_z {w = w16} (rw eo (between_fits (chroma_value_of level co) 127 128 (chroma_value_range level co) (omega arith) (omega arith))) ∙ eo
 
   as_i16_cg : as_i16 zg ≡ chroma_value_of level cg
-  as_i16_cg = to_z-of_z (rw eg (between_fits (chroma_value_of level cg) 127 128 (chroma_value_range level cg) (omega arith) (omega arith))) ∙ eg
+  as_i16_cg = to_z-of_z {w = w16} (rw eg (between_fits (chroma_value_of level cg) 127 128 (chroma_value_range level cg) (omega arith) (omega arith))) ∙ eg
 
   -- t = Y − Cg
   between_t : Between (pos y -ℤ chroma_value_of level cg) (255 + 128) (0 + 127)
