@@ -1,4 +1,4 @@
-//! Links the static library: the one that `RDP6_LIBRARY` names, or the one that `rt staticlib rdp6` writes in this repository.
+//! Links the static library: the one that `RDP6_LIBRARY` names, or the one that `scripts/make-library` writes in this repository.
 
 use std::path::{Path, PathBuf};
 use std::{env, fs, process};
@@ -9,7 +9,7 @@ const PLACE: &str = "../../target/staticlib/librdp6.a";
 fn stop(file: &Path, why: &str) -> ! {
     eprintln!("The library librdp6.a cannot be linked: {} ({why}).", file.display());
     eprintln!(
-        "Make it with `rt staticlib rdp6` at the top of the rdp6 repository, or set {SETTING} to its absolute path."
+        "Make it with `scripts/make-library` at the top of the rdp6 repository, or set {SETTING} to its absolute path."
     );
     process::exit(1)
 }

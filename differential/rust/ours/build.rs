@@ -13,7 +13,7 @@ fn library() -> PathBuf {
 
 fn stop(file: &Path, why: &str) -> ! {
     eprintln!("The library cannot be linked: {} ({why}).", file.display());
-    eprintln!("Make it with `rt staticlib rdp6` at the top of the repository, or set RDP6_LIBRARY to its path.");
+    eprintln!("Make it with `scripts/make-library` at the top of the repository, or set RDP6_LIBRARY to its path.");
     process::exit(1)
 }
 
