@@ -1,6 +1,6 @@
 -- How a row is divided (FORMAT 5.1): the first value with three or more repeats ends a segment, together with all its repeats. So the segments
 -- of a row are found by a search for four neighbours that are equal.
-use Rattle.std.proofs.Common.{◌≡◌, ℕ, zero, suc, ◌+◌, ◌-◌, ◌<◌, ◌≤◌, List, [], ◌∷◌, ◌++◌, length, get_or, take, drop, sym, ap, ◌∙◌, ⊎_elim, append-nil, add-one, arith, drop_of_length-le, drop-cons}
+use Rattle.std.proofs.Common.{◌≡◌, ℕ, zero, suc, ◌+◌, ◌-◌, ◌<◌, ◌≤◌, List, [], ◌++◌, length, get_or, take, drop, sym, ap, ◌∙◌, ⊎_elim, append-nil, add-one, arith, drop_of_length-le, drop-cons}
 use Rattle.rle_format.specs.Segment.{Segment}
 use Rattle.rle_format.specs.Pack.{split_segments, row_segments}
 use Rattle.rle_format.proofs.Cases.{le_or_gt, eq_or_ne}

@@ -1,5 +1,5 @@
 -- Segments written into an array with room: the invariant of the loops that write them, and its laws.
-use Rattle.std.proofs.Common.{◌≡◌, ℕ, ◌+◌, ◌-◌, ◌<◌, ◌≤◌, List, [], ◌∷◌, ◌++◌, length, get_or, take, drop, set, sym, refl, ap, ◌∙◌, append_assoc, append-nil, arith, length-append, take-append-drop, get_or-drop}
+use Rattle.std.proofs.Common.{◌≡◌, ℕ, ◌+◌, ◌-◌, ◌≤◌, List, [], ◌∷◌, ◌++◌, length, get_or, take, drop, set, sym, refl, ap, ◌∙◌, append_assoc, append-nil, arith, length-append, take-append-drop, get_or-drop}
 use Rattle.rle_format.specs.Slice.{write_at}
 use Rattle.rle_format.specs.Segment.{Segment, segment_size, control_byte, segment_bytes, segments_bytes}
 use Rattle.rle_format.proofs.Slice.{length-write_at, take-write_at, drop-write_at, take-write_at_before, write_at-write_at, set-write_at}

@@ -1,5 +1,5 @@
 -- A row packed from run to run: the segments that are left, and the flags that are not overwritten yet.
-use Rattle.std.proofs.Common.{◌≡◌, ℕ, ◌+◌, ◌-◌, ◌*◌, ◌/◌, ◌<◌, ◌≤◌, min, List, [], ◌∷◌, ◌++◌, length, get_or, take, drop, sym, ap, ◌∙◌, arith, length-drop, drop_of_length-le, length-take-le, get_or-drop, take_all, drop_at}
+use Rattle.std.proofs.Common.{◌≡◌, ℕ, ◌+◌, ◌-◌, ◌*◌, ◌/◌, ◌<◌, ◌≤◌, min, List, [], ◌++◌, length, get_or, take, drop, sym, ap, ◌∙◌, arith, length-drop, drop_of_length-le, length-take-le, get_or-drop, take_all, drop_at}
 use Rattle.rle_format.specs.Segment.{segments_bytes}
 use Rattle.rle_format.specs.Pack.{split_segments, row_segments}
 use Rattle.rle_format.proofs.Slice.{suffix, suffix_drop, replace_suffix, replace_suffix-append}

@@ -1,5 +1,5 @@
 -- A word of flags. Its trailing zeros tell the first flag that is set; those of its complement, the first that is clear.
-use Rattle.std.proofs.Common.{◌≡◌, ℕ, zero, suc, ◌+◌, ◌-◌, ◌*◌, ◌/◌, ◌%◌, ◌<◌, ◌≤◌, List, [], ◌∷◌, length, get_or, replicate, refl, ap, ◌∙◌, arith}
+use Rattle.std.proofs.Common.{◌≡◌, ℕ, zero, suc, ◌+◌, ◌-◌, ◌*◌, ◌/◌, ◌%◌, ◌<◌, List, [], ◌∷◌, length, get_or, replicate, refl, ap, ◌∙◌, arith}
 use lib.Count.{count_trailing_zeros}
 use Rattle.rle_encoder.specs.RunFlags.{Bits, word_of}
 

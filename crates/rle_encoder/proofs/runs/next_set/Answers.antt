@@ -1,0 +1,25 @@
+-- `next_set`: a word that is not 0 has the first flag that is set.
+use Rattle.std.proofs.Common.{◌+◌, arith}
+use Rattle.rle_encoder.proofs.Flags.{Found, all_both, word_first, word_none}
+use Rattle.rle_encoder.proofs.runs.next_set.Goals as goal
+
+pub returns-then-w-ne0 : goal.returns-then-w-ne0
+returns-then-w-ne0 c =
+    let l = c.loop-p in
+    let a = c.args in
+    let t = c.lowest in
+    let f : Found 0 1 a.flags.now l.p t.result =
+    word_first a.flags.now l.p a.from (a.width + 8) c.requires.2 (omega arith) (omega arith) c.word-w.result t.result c.word-w.ensures c.if-w-ne0.true t.ensures in
+    (omega arith, omega (arith, f.0), all_both 0 a.flags.now a.from l.p (l.p + t.result) l.invariant.2 f.1, λ h. f.2)
+
+pub loop-p-preserved : goal.loop-p-preserved
+loop-p-preserved c =
+    let l = c.loop-p in
+    let a = c.args in
+    let skip = c.skip_clear-p in (
+      omega (arith, skip.ensures.0),
+      skip.ensures.1,
+      all_both 0 a.flags.now a.from l.p skip.result l.invariant.2
+          (all_both 0 a.flags.now l.p (l.p + 8) skip.result
+          (word_none a.flags.now l.p a.from (a.width + 8) c.requires.2 (omega arith) (omega arith) c.word-w.result c.word-w.ensures c.if-w-ne0.false) skip.ensures.2),
+    )
