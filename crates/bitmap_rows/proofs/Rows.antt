@@ -121,12 +121,12 @@ module _ (form : PixelForm) (d : ColorPlaneDefinition) (flagged : Bool) (first s
   -- for a caller that knows the lengths and the loss level
   module _ (valid : is_loss_level_invalid_of d ≡ false) (h₁ : width ≤ length first) (h₂ : chroma_side_of (subsampled d) width ≤ length second) (h₃ : chroma_side_of (subsampled d) width ≤ length third)
       (shown : shown_alpha form width ≤ length alpha) (room : bytes_per_pixel_of form * width ≤ length dst) where
-    pub row_fits : row_fits form d first second third alpha width dst ≡ true
-    row_fits = fits_by_level (samples_fit_lem width (chroma_side_of (subsampled d) width) first second third h₁ h₂ h₃) shown room ∙ ap not valid
+    pub row_fits_lem : row_fits form d first second third alpha width dst ≡ true
+    row_fits_lem = fits_by_level (samples_fit_lem width (chroma_side_of (subsampled d) width) first second third h₁ h₂ h₃) shown room ∙ ap not valid
 
     pub row_written : write_row_of form d flagged first second third alpha width dst ≡ overwrite dst (row_pixels form d flagged first second third alpha width)
     unfolding write_row_of
-    row_written = rw row_fits refl
+    row_written = rw row_fits_lem refl
 
 -- the same for chroma rows that have a sample for each column
 pub full_chroma_level : (d : ColorPlaneDefinition) → is_loss_level_invalid_of (full_chroma d) ≡ is_loss_level_invalid_of d
