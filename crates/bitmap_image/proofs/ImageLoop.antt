@@ -1,5 +1,5 @@
 -- The loop that writes the rows of an image: rows of planes passed as parts of a slice, their bounds, and the invariant.
-use Prim.Native.Nat.{ℕ, zero, suc, ◌+◌, ◌*◌, ◌%◌, ◌<◌, ◌≤◌}
+use Prim.Native.Nat.{ℕ, suc, ◌+◌, ◌*◌, ◌%◌, ◌<◌, ◌≤◌}
 use mathlib.Core.Bool.{Bool, true, false}
 use mathlib.Core.Path.{◌≡◌, refl, sym, ap, ◌∙◌}
 use mathlib.Core.List.{List}
@@ -147,6 +147,26 @@ module _ (s : Bool) (width height cw ch len : ℕ) (lw : width ≤ 8192) (lh : h
         chroma_most = areas.chroma_most;
         all = areas.all;
       }
+
+-- the same by what the code has: t is its `subsampling`
+module _ (d : ColorPlaneDefinition) (t : Bool) (width height cw ch len : ℕ) (flag : t ≡ subsampled d) (ew : cw ≡ chroma_side_of t width) (eh : ch ≡ chroma_side_of t height) where
+  pub columns_of : cw ≡ chroma_side_of (subsampled d) width
+  columns_of = ew ∙ ap (λ (b : Bool). chroma_side_of b width) flag
+
+  pub lines_of : ch ≡ chroma_side_of (subsampled d) height
+  lines_of = eh ∙ ap (λ (b : Bool). chroma_side_of b height) flag
+
+  module _ (lw : width ≤ 8192) (lh : height ≤ 8192) (l : sum_over sample_count_of (colour_planes (subsampled d) width height) ≤ len) where
+    pub areas_of : Areas width height cw ch len
+    areas_of = areas (subsampled d) width height cw ch len lw lh columns_of lines_of l
+
+    pub rooms_of : (row second third : ℕ) → row < height → IsChromaStart (subsampled d) width (width * height) row second
+        → IsChromaStart (subsampled d) width (width * height + cw * ch) row third → Rooms width height row cw ch second third len
+    rooms_of row second third lr es et = rooms (subsampled d) width height cw ch len lw lh columns_of lines_of l row second third lr es et
+
+    -- the third plane's row is as far behind the second's as the planes are
+    pub rooms_behind : (row second : ℕ) → row < height → IsChromaStart (subsampled d) width (width * height) row second → Rooms width height row cw ch second (second + cw * ch) len
+    rooms_behind row second lr es = rooms_of row second (second + cw * ch) lr es (chroma_behind (subsampled d) width (width * height) row second (cw * ch) es)
 
 -- the room of a part, which begins at a small number
 pub record PartRoom (from need len : ℕ) : Type 0 where

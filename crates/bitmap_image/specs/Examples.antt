@@ -1,6 +1,6 @@
 -- Examples of images written from planes and into images of any lengths, worked out by hand: one constant list, what the definitions compute for
 -- each, and what is expected. proofs/Examples.antt has the one proof.
-use Rattle.std.specs.Prelude.{ℕ, Bool, true, false, List, [], ◌∷◌}
+use Rattle.std.specs.Prelude.{ℕ, true, false, List, [], ◌∷◌}
 use Rattle.pixel_format.specs.Channel.{rgb_a}
 use Rattle.bitmap_format.specs.declared.BitmapStreamHeader.{BitmapStreamHeader}
 use Rattle.bitmap_format.specs.declared.ColorPlaneDefinition.TheVariants.{AYCoCg}
