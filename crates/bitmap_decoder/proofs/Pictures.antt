@@ -9,7 +9,6 @@ use lib.ListN.{length, drop, length-drop}
 use Rattle.rle_format.specs.declared.Refusal.{Refusal}
 use Rattle.rle_format.specs.declared.Unpacked.{Unpacked}
 use Rattle.rle_format.specs.declared.Unpacked.TheVariants.{Read, Refused}
-use Rattle.rle_format.specs.Choice.{choose}
 use Rattle.rle_format.specs.Answer.{Answer, counted, number, to_answer}
 use Rattle.rle_format.specs.Sides.{check_sides_of, AllowedSides}
 use Rattle.rle_format.proofs.Sides.{allowed_sides, check_sides_passes}

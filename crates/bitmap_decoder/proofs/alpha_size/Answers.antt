@@ -1,0 +1,9 @@
+-- `alpha_size`: the samples of the list of alpha planes, one or none. Assumes nothing.
+use Rattle.bitmap_decoder.proofs.Pictures.{alpha_flagged, alpha_absent}
+use Rattle.bitmap_decoder.proofs.alpha_size.Goals as goal
+
+pub returns-then-alpha : goal.returns-then-alpha
+returns-then-alpha c = alpha_flagged _ _ _ c.if-alpha.true
+
+pub returns : goal.returns
+returns c = alpha_absent _ _ _ c.if-alpha.false
