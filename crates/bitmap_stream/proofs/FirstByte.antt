@@ -2,7 +2,7 @@
 use mathlib.Core.Path.{◌≡◌, refl, sym, ap, ◌∙◌}
 use mathlib.Core.Bool.{Bool}
 use mathlib.Core.List.{List, [], ◌∷◌}
-use Prim.Native.Nat.{ℕ, ◌+◌, ◌-◌, ◌≤◌, ◌<◌}
+use Prim.Native.Nat.{ℕ, ◌-◌, ◌≤◌, ◌<◌}
 use native.Mathlib.Nat.{add_comm}
 use native.Mathlib.Omega.{arith}
 use lib.ListN.{length, length-drop}
@@ -14,7 +14,7 @@ use Rattle.bitmap_format.specs.declared.Encoded.{Encoded}
 use Rattle.bitmap_format.specs.declared.Encoded.TheVariants.{Written}
 use Rattle.bitmap_format.specs.HeaderByte.{header_to_byte_of}
 use Rattle.bitmap_format.specs.PackPicture.{EncodedAnswer, encoded_count, with_header, encoded_to_answer, drop_header, check_pack, pack_picture, header_to_send_of}
-use Rattle.bitmap_format.specs.Stream.{StreamOutcome, with_header_byte, empty_destination, pack_stream, pack_picture_stream}
+use Rattle.bitmap_format.specs.Stream.{with_header_byte, empty_destination, pack_stream, pack_picture_stream}
 use Rattle.bitmap_format.proofs.PackRoom.{pack_picture_within}
 use Rattle.bitmap_format.proofs.EmptyDestination.{no_room}
 use Rattle.bitmap_stream.specs.HeaderWritten.{header_written}
