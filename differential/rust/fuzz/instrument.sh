@@ -1,7 +1,7 @@
 #!/usr/bin/env bash
-# Makes the library for the fuzzer: the same module that `rt staticlib rdp6` compiles, with the address sanitiser and counters of
-# edges in it. `rt` does it, in a folder that has this repository's crates and what is proved of them, with a kit whose clang is the
-# one beside this script.
+# Makes the library for the fuzzer: the same module that `rt lib` compiles in crates/rdp6, with the address sanitiser and counters of edges
+# in it. `rt` does it, in a copy of this repository's crates with what is proved of them, from a kit whose clang is the one beside this
+# script. It stops if the kit has not the form that is known here.
 #
 #   instrument.sh FOLDER   makes FOLDER/librdp6.a
 #   instrument.sh --help   prints this
@@ -17,39 +17,52 @@ case $1 in -*) unexpected "$1" ;; esac
 at_most 1 "$@"
 top=$(cd "$here/../../.." && pwd)
 folder=$(realpath -m "$1")
-kit=${RATTLE_HOME:-$(dirname "$(dirname "$(readlink -f "$(command -v rt)")")")}
-tools=on/$(uname -m)/toolchain
-[ -x "$kit/$tools/bin/clang" ] || {
-    echo "the Rattle kit at $kit has no $tools/bin/clang: the library cannot be instrumented" >&2
-    exit 1
-}
+kit=$(dirname "$(dirname "$(readlink -f "$(command -v rt)")")")
+for part in bin/rt bin/rtlib.py toolchain/bin/clang; do
+    [ -f "$kit/$part" ] || {
+        echo "the Rattle kit at $kit has no $part: the library cannot be instrumented" >&2
+        exit 1
+    }
+done
 
-# A kit of links to the true one, but for its clang.
-rm -rf "$folder/kit" "$folder/repository"
-mkdir -p "$folder/kit/$tools/bin"
-link_all() { # FOLDER, seen from the kit, EXCEPT
+# Nothing of this stays, since 'rt ci' refuses a second repository, and links, in this one.
+made=("$folder/kit" "$folder/repository" "$folder/rattle-kept")
+trap 'rm -rf "${made[@]}"' EXIT
+rm -rf "${made[@]}"
+
+# A kit of links to the true one, but for its clang. rt finds the kit by its own true path, so its two files are copied.
+mkdir -p "$folder/kit/bin" "$folder/kit/toolchain/bin" "$folder/kit/toolchain/true"
+link_all() { # FOLDER, seen from the kit, EXCEPT..
     local part
     for part in "$kit/$1"/*; do
-        [ "${part##*/}" = "$2" ] || ln -s "$part" "$folder/kit/$1/${part##*/}"
+        case " ${*:2} " in
+        *" ${part##*/} "*) ;;
+        *) ln -s "$part" "$folder/kit/$1/${part##*/}" ;;
+        esac
     done
 }
-link_all . on
-link_all "${tools%/*}" toolchain
-link_all "$tools" bin
-link_all "$tools/bin" clang
-ln -s "$here/clang" "$folder/kit/$tools/bin/clang"
-mkdir "$folder/kit/$tools/true"
-ln -s "$kit/$tools/bin/clang" "$folder/kit/$tools/true/clang"
+link_all . bin toolchain
+link_all bin rt rtlib.py
+link_all toolchain bin
+link_all toolchain/bin clang
+cp "$kit/bin/rt" "$kit/bin/rtlib.py" "$folder/kit/bin/"
+cp "$here/clang" "$folder/kit/toolchain/bin/"
+ln -s "$kit/toolchain/bin/clang" "$folder/kit/toolchain/true/clang"
 
-mkdir -p "$folder/repository/target"
+# The crates, with what is proved of them: their libraries, and of rdp6 the work of its check.
+mkdir -p "$folder/repository/crates"
 cp "$top/crates.txt" "$folder/repository/"
-ln -s "$top/crates" "$folder/repository/crates"
-for part in rlib stamp; do
-    if [ -d "$top/target/$part" ]; then cp -r "$top/target/$part" "$folder/repository/target/"; fi
+for crate in "$top"/crates/*/; do
+    copy=$folder/repository/crates/$(basename "$crate")
+    mkdir -p "$copy/out"
+    for part in src specs proofs out/rlib; do
+        if [ -d "$crate$part" ]; then cp -r "$crate$part" "$copy/$part"; fi
+    done
 done
-(cd "$folder/repository" && RATTLE_HOME=$folder/kit rt staticlib rdp6) >"$folder/instrument.log" 2>&1 || {
+kept=crates/rdp6/out/incremental
+if [ -d "$top/$kept" ]; then cp -r "$top/$kept" "$folder/repository/$kept"; fi
+(cd "$folder/repository/crates/rdp6" && "$folder/kit/bin/rt" lib) >"$folder/instrument.log" 2>&1 || {
     tail -n 20 "$folder/instrument.log" >&2
     exit 1
 }
-mv "$folder/repository/target/staticlib/librdp6.a" "$folder/librdp6.a"
-rm -rf "$folder/kit" "$folder/repository"
+mv "$folder/repository/crates/rdp6/out/librdp6.a" "$folder/librdp6.a"
