@@ -1,10 +1,10 @@
 /*
- * The stack of the first call of a function, in a program that binds memcpy and memset lazily, and of later calls. The first call takes more:
+ * The stack of the first call of a function, in a program that binds memmove and memset lazily, and of later calls. The first call takes more:
  * the dynamic linker looks the two functions up on the caller's stack. `differential/bench --stack` builds this with -z lazy and prints
  * its table.
  *
  * Each function is called in a process of its own, on a stack whose bytes all have one value before the call. The lowest byte that has
- * another value afterwards gives the depth. The depth of a function that does nothing is subtracted. This program does not call memcpy or
+ * another value afterwards gives the depth. The depth of a function that does nothing is subtracted. This program does not call memmove or
  * memset itself, or they would be bound before the measurement.
  */
 #include <stdio.h>
