@@ -13,7 +13,7 @@ fn transformed_delta(delta: u8) -> u8
 }
 
 // The first width bytes of rows are samples, and the first width values of codes are the delta codes of the row below: writes that row's
-// samples behind the first row. The two rows are one slice because Rattle does not borrow two parts of one slice at a time.
+// samples behind the first row. The two rows are one slice, so that no slice has to be split.
 fn resolve_scanline_delta(codes: &[u8], rows: &mut [u8], width: usize)
     requires { (width ≤ length codes.now) × (width + width ≤ length rows.old) }
     ensures { rows.new ≡ write_at rows.old width (zip_with undo_delta (take width rows.old) (take width codes.now)) }

@@ -66,7 +66,7 @@ write_at_snoc d at vs v h =
 
 -- ---- what was copied, and an iteration of the loop that fills
 
--- all of s copied to the start, as the contract of `bytes::copy` states it
+-- all of s copied to the start, with what was behind it
 pub copied_overwrite : (d s now : List ℕ) → now ≡ take (length s) s ++ drop (length s) d → now ≡ overwrite d s
 unfolding overwrite
 copied_overwrite d s now e = e ∙ ap (λ (l : List ℕ). l ++ drop (length s) d) (take_all (length s) s (omega arith))
@@ -222,8 +222,8 @@ write_four d s from at v₀ v₁ v₂ v₃ h k e₀ e₁ e₂ e₃ =
     let three = copy_step d _ s from at 2 (at + 2) v₂ two refl (omega arith) (omega arith) e₂ in
     copy_step d _ s from at 3 (at + 3) v₃ three refl (omega arith) (omega arith) e₃
 
--- p, k bytes of s, copied to an array of k bytes, which is then q, and from there to d from `at` on. In the form of the contract of the
--- kit's `bytes::copy`
+-- p, k bytes of s, copied to an array of k bytes, which is then q, and from there to d from `at` on. Each copy is to the start of a slice, and
+-- leaves what is behind it
 pub copied_through_array : (d s p q got left array : List ℕ) (from at k : ℕ) → from + k ≤ length s → length array ≡ k → p ≡ take k (drop from s)
     → got ≡ take (length p) p ++ drop (length p) array → q ≡ got → left ≡ take (length q) q ++ drop (length q) (suffix d at)
     → replace_suffix d at left ≡ write_at d at (take k (drop from s))

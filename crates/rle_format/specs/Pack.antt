@@ -82,7 +82,7 @@ unfoldable pub packing : (width height : ℕ) (samples : List ℕ) → List ℕ
 packing width height samples = segments_bytes (plane_segments width height samples)
 
 -- segments written one after the other into `room` bytes. The first that does not fit is refusal 12; those before it are written (FORMAT
--- 8.3). If all fit, all their bytes are written (proofs/Writing.antt: write-all)
+-- 8.3). If all fit, all their bytes are written (proofs/Writing.antt: write_all)
 unfoldable pub write_segments : List Segment → (room : ℕ) → Outcome
 write_segments [] room = stop (counted 0)
 write_segments (s ∷ ss) room =

@@ -10,7 +10,7 @@ check_sides_of refuse width height inside =
     (choose (ltb 8192 width || ltb 8192 height) (refuse 2) inside)
 
 -- sides that pass both checks. Only contracts of inner functions use this; it is what `check_sides_of` lets through (proofs/Sides.antt:
--- allowed-sides, check_sides_passes)
+-- allowed_sides, check_sides_passes)
 pub record AllowedSides (width height : ℕ) : Type 0 where
   pub some_width : width ≡ 0 → ⊥
   pub some_height : height ≡ 0 → ⊥

@@ -20,7 +20,7 @@ prepend_row vs n (stopped codes r) = stopped (vs ++ codes) r
 
 -- the rest of a row (FORMAT 4.1): `room` is the number of values that it still has room for, `last` the last byte. `bound` limits the number of
 -- segments, so that the recursion ends; number 0, which is no refusal, marks a bound that was too low. Every segment has at least one
--- value, so that a bound of at least `room` is never too low (proofs/Row.antt: row-bounded)
+-- value, so that a bound of at least `room` is never too low (proofs/Row.antt: row_bounded)
 unfoldable pub read_row : (bound room last : ℕ) (body : List ℕ) → RowRead
 read_row zero zero last body = full [] 0
 read_row zero (suc room) last body = stopped [] 0

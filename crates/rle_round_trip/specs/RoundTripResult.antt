@@ -19,7 +19,7 @@ UnpackResult width height packed end dst left (Done u) =
     × (left ≡ overwrite dst (unpack_plane width height (length dst) (take end packed)).written)
 
 -- `made` is the answer of packing and `packed` the slice after it; if n bytes were written, they are the packing. One answer and one `left` are
--- possible (proofs/RoundTripResult.antt: round-trip-determined)
+-- possible (proofs/RoundTripResult.antt: round_trip_determined)
 abbrev pub RoundTripResult : (width height : ℕ) (samples : List ℕ) (made : Answer) (packed : List ℕ) (end : ℕ) (dst left : List ℕ) → RoundTrip → Type 0
 RoundTripResult width height samples made packed end dst left (NotPacked k) = (made ≡ refused (number k)) × (left ≡ dst)
 RoundTripResult width height samples made packed end dst left TooLong =
