@@ -1,8 +1,11 @@
 // A data file: loaded completely, its cases found one after the other, and its tally printed after the last one.
-ghost use Rattle.std.specs.Prelude.{◌≡◌, ◌≤◌, min, length};
+ghost use Rattle.std.specs.Prelude.{◌≡◌, ◌≤◌, IfOk, min, length};
 
 use crate::report::{LineResult, Tally};
 use crate::{read, report};
+use std::io::Read;
+use std::rt::Files;
+use std::{fs, io};
 
 // The largest file: 1 MiB.
 const MAX_FILE_SIZE: usize = 1_048_576;
@@ -27,25 +30,41 @@ pub struct Position {
     tally: Tally,
 }
 
-// Loads the file at `path` into the first bytes of the buffer. If it cannot be loaded, it prints why.
-pub fn load(path: &[u8], buffer: &mut [u8; BUFFER_SIZE]) -> Loaded
-    ensures { result.size ≤ length buffer.new }
+// Loads the file at `path` into the first bytes of the buffer. If it cannot be loaded, it prints why. The error is one of printing.
+pub fn load(
+    rt: &(impl Files + Print),
+    path: &str,
+    buffer: &mut [u8; BUFFER_SIZE],
+) -> io::Result<Loaded>
+    ensures { IfOk result (λ loaded. loaded.size ≤ length buffer.new) }
 {
-    let fd = os::open_read(path);
-    if fd < 0 {
-        report::print_error(path, b"cannot be opened");
-        return not_loaded();
-    }
-    let size = io::read_full(fd, buffer);
-    libc::close(fd);
+    let Ok(mut file) = fs::open(rt, path) else {
+        report::print_error(rt, path, "cannot be opened")?;
+        return Ok(not_loaded());
+    };
+    let size = read_full(&mut file, buffer);
     if MAX_FILE_SIZE < size {
-        report::print_error(path, b"is larger than 1 MiB");
-        return not_loaded();
+        report::print_error(rt, path, "is larger than 1 MiB")?;
+        return Ok(not_loaded());
     }
-    Loaded {
+    Ok(Loaded {
         failed: false,
         size,
+    })
+}
+
+// Reads into the first bytes of the buffer until it is full, the file ends or a read fails, and returns how many bytes were read.
+fn read_full(file: &mut impl Read, buffer: &mut [u8]) -> usize
+    ensures { result ≤ length buffer.new }
+{
+    let mut size = 0;
+    while size < buffer.len() {
+        match file.read(&mut buffer[size..]) {
+            Ok(0) | Err(_) => break,
+            Ok(count) => size += count,
+        }
     }
+    size
 }
 
 fn not_loaded() -> Loaded
@@ -58,37 +77,50 @@ fn not_loaded() -> Loaded
 }
 
 // The first case of the text.
-pub fn first_case(path: &[u8], text: &[u8]) -> Position
-    ensures { (result.start ≤ result.end) × (result.end ≤ length text.now) }
+pub fn first_case(rt: &impl Print, path: &str, text: &[u8]) -> io::Result<Position>
+    ensures { IfOk result (λ first. (first.start ≤ first.end) × (first.end ≤ length text.now)) }
 {
     let tally = report::new_tally();
-    case_from(path, text, 0, 0, tally)
+    case_from(rt, path, text, 0, 0, tally)
 }
 
 // Counts the result of a case, prints it if it is not the stored one, and returns the next case. That one begins at or after the
 // end of the case before, so no case is replayed twice.
-pub fn next_case(path: &[u8], text: &[u8], position: Position, res: LineResult) -> Position
-    ensures start_le_end { (result.start ≤ result.end) × (result.end ≤ length text.now) }
-    ensures text_bound { min position.end (length text.now) ≤ result.start }
+pub fn next_case(
+    rt: &impl Print,
+    path: &str,
+    text: &[u8],
+    position: Position,
+    res: LineResult,
+) -> io::Result<Position>
+    ensures start_le_end { IfOk result (λ next. (next.start ≤ next.end) × (next.end ≤ length text.now)) }
+    ensures text_bound { IfOk result (λ next. min position.end (length text.now) ≤ next.start) }
 {
     let tally = position.tally;
-    let counted = report::add_result(path, position.line, tally, res);
+    let counted = report::add_result(rt, path, position.line, tally, res)?;
     if text.len() < position.end {
-        return case_from(path, text, text.len(), position.line, counted);
+        return case_from(rt, path, text, text.len(), position.line, counted);
     }
-    case_from(path, text, position.end, position.line, counted)
+    case_from(rt, path, text, position.end, position.line, counted)
 }
 
 // The first case that begins at `start`, which is after `line` lines, or later. Without one it prints the tally.
-fn case_from(path: &[u8], text: &[u8], start: usize, line: usize, tally: Tally) -> Position
+fn case_from(
+    rt: &impl Print,
+    path: &str,
+    text: &[u8],
+    start: usize,
+    line: usize,
+    tally: Tally,
+) -> io::Result<Position>
     requires { start ≤ length text.now }
-    ensures { (start ≤ result.start) × (result.start ≤ result.end) × (result.end ≤ length text.now) }
+    ensures { IfOk result (λ case. (start ≤ case.start) × (case.start ≤ case.end) × (case.end ≤ length text.now)) }
 {
     let position = skip_comments(text, start, line, tally);
     if position.start == position.end {
-        report::print_tally(path, tally);
+        report::print_tally(rt, path, tally)?;
     }
-    position
+    Ok(position)
 }
 
 // The same without printing.

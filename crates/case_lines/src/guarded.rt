@@ -51,7 +51,7 @@ pub fn compare_slice(array: &[u8], expected: &[u8]) -> Comparison
         return nothing_equal();
     }
     let end = GUARD_SIZE + expected.len();
-    let bytes_equal = check::same(&array[GUARD_SIZE..end], expected);
+    let bytes_equal = &array[GUARD_SIZE..end] == expected;
     let before = is_guard_unchanged(&array[0..GUARD_SIZE]);
     let after = is_guard_unchanged(&array[end..end + GUARD_SIZE]);
     Comparison {
@@ -64,7 +64,7 @@ pub fn compare_slice(array: &[u8], expected: &[u8]) -> Comparison
 fn is_guard_unchanged(bytes: &[u8]) -> bool
     ensures { Tests result (bytes.now ≡ guard) }
 {
-    check::same(bytes, &[GUARD_BYTE; GUARD_SIZE])
+    bytes == [GUARD_BYTE; GUARD_SIZE].as_slice()
 }
 
 // The comparison of an array that is too short.

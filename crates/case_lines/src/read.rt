@@ -141,6 +141,7 @@ pub fn next_answer(line: &[u8], start: usize) -> ParsedAnswer
 }
 
 // The layout (FORMAT 7.1) that a line has as a number.
+#[tactic(auto, unfolding(crate::specs::Layouts::layout_of))]
 pub fn layout_of(number: usize) -> ParsedLayout
     ensures { result ≡ layout_of number }
 {
@@ -265,7 +266,7 @@ fn expand(field: &[u8], into: &mut [u8]) -> Expanded
     if field.len() == 0 {
         return Expanded::Malformed;
     }
-    if check::same(field, b"-") {
+    if field == b"-".as_slice() {
         return Expanded::Count(0);
     }
     expand_entries(field, into)

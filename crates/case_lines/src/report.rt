@@ -3,14 +3,23 @@ ghost use Rattle.std.specs.Prelude.{◌≡◌, true};
 ghost use Rattle.rle_format.specs.Answer.{number};
 ghost use Rattle.case_lines.specs.Results.{case_result_of, is_same_answer_of};
 
-use libc::STDOUT_FILENO;
 use rle_format::Refusal;
+use std::{fmt, io};
 
 // The answer of a call: a number of bytes, or the number of a refusal.
 #[derive(Clone, Copy)]
 pub struct Answer {
     pub refused: bool,
     pub number: usize,
+}
+
+// As a data file has it.
+impl fmt::Display for Answer {
+    fn fmt<W: fmt::Write>(&self, f: &mut fmt::Formatter<W>) -> fmt::Result {
+        let sign = if self.refused { "-" } else { "" };
+        let number = self.number;
+        write!(f, "{sign}{number}")
+    }
 }
 
 // The result of replaying a line.
@@ -101,11 +110,17 @@ pub(crate) fn new_tally() -> Tally {
 }
 
 // The tally with one more result, that of line `line`. Prints what is wrong with the line, unless that was printed for enough lines.
-pub(crate) fn add_result(path: &[u8], line: usize, tally: Tally, res: LineResult) -> Tally {
+pub(crate) fn add_result(
+    rt: &impl Print,
+    path: &str,
+    line: usize,
+    tally: Tally,
+    res: LineResult,
+) -> io::Result<Tally> {
     if saturating_add(tally.different, tally.malformed) < MAX_REPORTED_LINES {
-        print_result(path, line, res);
+        print_result(rt, path, line, res)?;
     }
-    match res {
+    Ok(match res {
         LineResult::Equal => Tally {
             equal: saturating_add(tally.equal, 1),
             different: tally.different,
@@ -127,7 +142,7 @@ pub(crate) fn add_result(path: &[u8], line: usize, tally: Tally, res: LineResult
             different: tally.different,
             malformed: saturating_add(tally.malformed, 1),
         },
-    }
+    })
 }
 
 // The sum of two counts, or the largest number where it is larger. No file has so many lines; the test is there so that the
@@ -140,30 +155,30 @@ pub(crate) fn saturating_add(a: usize, b: usize) -> usize {
 }
 
 // Prints why a file could not be replayed.
-pub(crate) fn print_error(path: &[u8], why: &[u8]) {
-    print(path);
-    print(b": ");
-    print(why);
-    print(b"\n");
+pub(crate) fn print_error(rt: &impl Print, path: &str, why: &str) -> io::Result<()> {
+    println!(rt; "{path}: {why}")
 }
 
 // Prints the tally of a file.
-pub(crate) fn print_tally(path: &[u8], tally: Tally) {
-    print(path);
-    print(b": ");
-    print_count(saturating_add(tally.equal, tally.different), b" cases, ");
-    print_count(tally.equal, b" equal, ");
-    print_count(tally.different, b" different, ");
-    print_count(tally.malformed, b" bad lines\n");
+pub(crate) fn print_tally(rt: &impl Print, path: &str, tally: Tally) -> io::Result<()> {
+    let Tally {
+        equal,
+        different,
+        malformed,
+    } = tally;
+    let cases = saturating_add(equal, different);
+    println!(rt;
+        "{path}: {cases} cases, {equal} equal, {different} different, {malformed} bad lines"
+    )
 }
 
 // Prints what is wrong with a line. For a case that gave the stored result it prints nothing.
-fn print_result(path: &[u8], line: usize, res: LineResult) {
+fn print_result(rt: &impl Print, path: &str, line: usize, res: LineResult) -> io::Result<()> {
     match res {
-        LineResult::Equal => {}
+        LineResult::Equal => Ok(()),
         LineResult::Malformed => {
-            print_location(path, line);
-            print(b"bad line\n");
+            print_location(rt, path, line)?;
+            println!(rt; "bad line")
         }
         LineResult::Different {
             expected,
@@ -172,60 +187,40 @@ fn print_result(path: &[u8], line: usize, res: LineResult) {
             bytes_equal,
             guards_unchanged,
         } => {
-            print_location(path, line);
-            print_difference(expected, got, header_equal, bytes_equal, guards_unchanged);
+            print_location(rt, path, line)?;
+            print_difference(
+                rt,
+                expected,
+                got,
+                header_equal,
+                bytes_equal,
+                guards_unchanged,
+            )
         }
     }
 }
 
-fn print_location(path: &[u8], line: usize) {
-    print(path);
-    print(b", line ");
-    print_number(line);
-    print(b": ");
+fn print_location(rt: &impl Print, path: &str, line: usize) -> io::Result<()> {
+    print!(rt; "{path}, line {line}: ")
 }
 
 fn print_difference(
+    rt: &impl Print,
     expected: Answer,
     got: Answer,
     header_equal: bool,
     bytes_equal: bool,
     guards_unchanged: bool,
-) {
-    print(b"expected ");
-    print_answer(expected);
-    print(b", got ");
-    print_answer(got);
+) -> io::Result<()> {
+    print!(rt; "expected {expected}, got {got}")?;
     if !header_equal {
-        print(b"; the header record differs");
+        print!(rt; "; the header record differs")?;
     }
     if !bytes_equal {
-        print(b"; the destination differs");
+        print!(rt; "; the destination differs")?;
     }
     if !guards_unchanged {
-        print(b"; bytes around the destination were changed");
+        print!(rt; "; bytes around the destination were changed")?;
     }
-    print(b"\n");
-}
-
-// Prints an answer as a data file has it.
-fn print_answer(answer: Answer) {
-    if answer.refused {
-        print(b"-");
-    }
-    print_number(answer.number);
-}
-
-// Prints a number and the words that follow it.
-fn print_count(number: usize, words: &[u8]) {
-    print_number(number);
-    print(words);
-}
-
-fn print_number(number: usize) {
-    io::print_decimal(STDOUT_FILENO, number as u64);
-}
-
-fn print(text: &[u8]) {
-    io::write_all(STDOUT_FILENO, text);
+    println!(rt;)
 }
