@@ -7,37 +7,40 @@ mod plane;
 use case_lines::file;
 use case_lines::file::BUFFER_SIZE;
 use plane::Operation;
+use std::io;
+use std::rt::Files;
 
-fn main() {
-    replay(Operation::Unpack, b"examples.txt");
-    replay(Operation::Pack, b"examples-pack.txt");
-    replay(Operation::Unpack, b"refusals.txt");
-    replay(Operation::Pack, b"refusals-pack.txt");
-    replay(Operation::RoundTrip, b"prefixes.txt");
-    replay(Operation::Unpack, b"plane-unpack.txt");
-    replay(Operation::Unpack, b"plane-unpack-boundaries.txt");
-    replay(Operation::Pack, b"plane-pack.txt");
-    replay(Operation::Pack, b"plane-pack-boundaries.txt");
+fn main(rt: HostRuntime) -> io::Result<()> {
+    replay(&rt, Operation::Unpack, "examples.txt")?;
+    replay(&rt, Operation::Pack, "examples-pack.txt")?;
+    replay(&rt, Operation::Unpack, "refusals.txt")?;
+    replay(&rt, Operation::Pack, "refusals-pack.txt")?;
+    replay(&rt, Operation::RoundTrip, "prefixes.txt")?;
+    replay(&rt, Operation::Unpack, "plane-unpack.txt")?;
+    replay(&rt, Operation::Unpack, "plane-unpack-boundaries.txt")?;
+    replay(&rt, Operation::Pack, "plane-pack.txt")?;
+    replay(&rt, Operation::Pack, "plane-pack-boundaries.txt")
 }
 
 // Replays the cases of the file at `path`, which are all of one kind.
-fn replay(operation: Operation, path: &[u8]) {
+fn replay(rt: &(impl Files + Print), operation: Operation, path: &str) -> io::Result<()> {
     let mut buffer = [0u8; BUFFER_SIZE];
-    let loaded = file::load(path, &mut buffer);
+    let loaded = file::load(rt, path, &mut buffer)?;
     if loaded.failed {
-        return;
+        return Ok(());
     }
     let size = loaded.size;
-    replay_text(operation, path, &buffer[0..size]);
+    replay_text(rt, operation, path, &buffer[0..size])
 }
 
 // The same for a file that was loaded.
-fn replay_text(operation: Operation, path: &[u8], text: &[u8]) {
-    let mut case = file::first_case(path, text);
+fn replay_text(rt: &impl Print, operation: Operation, path: &str, text: &[u8]) -> io::Result<()> {
+    let mut case = file::first_case(rt, path, text)?;
     while case.start < case.end {
         let start = case.start;
         let end = case.end;
         let result = plane::replay(operation, &text[start..end]);
-        case = file::next_case(path, text, case, result);
+        case = file::next_case(rt, path, text, case, result)?;
     }
+    Ok(())
 }
