@@ -30,14 +30,16 @@ pub struct Position {
     tally: Tally,
 }
 
-// Loads the file at `path` into the first bytes of the buffer. If it cannot be loaded, it prints why. The error is one of printing.
+// Loads the file at `path` into the first bytes of the buffer. If it cannot be loaded, it prints why. An error is one of printing; it comes
+// before anything is read or after all was.
 pub fn load(
     rt: &(impl Files + Print),
-    path: &str,
+    path: &[u8],
     buffer: &mut [u8; BUFFER_SIZE],
 ) -> io::Result<Loaded>
     ensures { IfOk result (λ loaded. loaded.size ≤ length buffer.new) }
 {
+    let path = report::text_of_path(path);
     let Ok(mut file) = fs::open(rt, path) else {
         report::print_error(rt, path, "cannot be opened")?;
         return Ok(not_loaded());
@@ -76,10 +78,11 @@ fn not_loaded() -> Loaded
     }
 }
 
-// The first case of the text.
-pub fn first_case(rt: &impl Print, path: &str, text: &[u8]) -> io::Result<Position>
+// The first case of the text. An error is one of printing, here and below, and nothing that was lent is changed.
+pub fn first_case(rt: &impl Print, path: &[u8], text: &[u8]) -> io::Result<Position>
     ensures { IfOk result (λ first. (first.start ≤ first.end) × (first.end ≤ length text.now)) }
 {
+    let path = report::text_of_path(path);
     let tally = report::new_tally();
     case_from(rt, path, text, 0, 0, tally)
 }
@@ -88,7 +91,7 @@ pub fn first_case(rt: &impl Print, path: &str, text: &[u8]) -> io::Result<Positi
 // end of the case before, so no case is replayed twice.
 pub fn next_case(
     rt: &impl Print,
-    path: &str,
+    path: &[u8],
     text: &[u8],
     position: Position,
     res: LineResult,
@@ -96,6 +99,7 @@ pub fn next_case(
     ensures start_le_end { IfOk result (λ next. (next.start ≤ next.end) × (next.end ≤ length text.now)) }
     ensures text_bound { IfOk result (λ next. min position.end (length text.now) ≤ next.start) }
 {
+    let path = report::text_of_path(path);
     let tally = position.tally;
     let counted = report::add_result(rt, path, position.line, tally, res)?;
     if text.len() < position.end {

@@ -154,6 +154,14 @@ pub(crate) fn saturating_add(a: usize, b: usize) -> usize {
     a + b
 }
 
+// A path as text, as std takes it. Bytes that are no text become the empty path, which no file has.
+pub(crate) fn text_of_path(path: &[u8]) -> &str {
+    match str::from_utf8(path) {
+        Ok(text) => text,
+        Err(_) => "",
+    }
+}
+
 // Prints why a file could not be replayed.
 pub(crate) fn print_error(rt: &impl Print, path: &str, why: &str) -> io::Result<()> {
     println!(rt; "{path}: {why}")

@@ -11,25 +11,25 @@ use std::io;
 use std::rt::Files;
 
 fn main(rt: HostRuntime) -> io::Result<()> {
-    replay_bodies(&rt, SourceKind::Channels, "examples-channels.txt")?;
-    replay_bodies(&rt, SourceKind::Pixels, "examples-bitmap.txt")?;
-    replay_streams(&rt, SourceKind::Channels, "examples-stream-channels.txt")?;
-    replay_streams(&rt, SourceKind::Pixels, "examples-stream-bitmap.txt")?;
-    replay_bodies(&rt, SourceKind::Channels, "refusals-channels.txt")?;
-    replay_bodies(&rt, SourceKind::Pixels, "refusals-bitmap.txt")?;
-    replay_streams(&rt, SourceKind::Channels, "refusals-stream-channels.txt")?;
-    replay_streams(&rt, SourceKind::Pixels, "refusals-stream-bitmap.txt")?;
-    replay_bodies(&rt, SourceKind::Channels, "channels-pack.txt")?;
-    replay_bodies(&rt, SourceKind::Pixels, "bitmap-pack.txt")?;
-    replay_streams(&rt, SourceKind::Channels, "stream-channels-pack.txt")?;
-    replay_streams(&rt, SourceKind::Pixels, "stream-bitmap-pack.txt")
+    replay_bodies(&rt, SourceKind::Channels, b"examples-channels.txt")?;
+    replay_bodies(&rt, SourceKind::Pixels, b"examples-bitmap.txt")?;
+    replay_streams(&rt, SourceKind::Channels, b"examples-stream-channels.txt")?;
+    replay_streams(&rt, SourceKind::Pixels, b"examples-stream-bitmap.txt")?;
+    replay_bodies(&rt, SourceKind::Channels, b"refusals-channels.txt")?;
+    replay_bodies(&rt, SourceKind::Pixels, b"refusals-bitmap.txt")?;
+    replay_streams(&rt, SourceKind::Channels, b"refusals-stream-channels.txt")?;
+    replay_streams(&rt, SourceKind::Pixels, b"refusals-stream-bitmap.txt")?;
+    replay_bodies(&rt, SourceKind::Channels, b"channels-pack.txt")?;
+    replay_bodies(&rt, SourceKind::Pixels, b"bitmap-pack.txt")?;
+    replay_streams(&rt, SourceKind::Channels, b"stream-channels-pack.txt")?;
+    replay_streams(&rt, SourceKind::Pixels, b"stream-bitmap-pack.txt")
 }
 
-fn replay_bodies(rt: &(impl Files + Print), source: SourceKind, path: &str) -> io::Result<()> {
+fn replay_bodies(rt: &(impl Files + Print), source: SourceKind, path: &[u8]) -> io::Result<()> {
     replay(rt, source, ResultKind::Body, path)
 }
 
-fn replay_streams(rt: &(impl Files + Print), source: SourceKind, path: &str) -> io::Result<()> {
+fn replay_streams(rt: &(impl Files + Print), source: SourceKind, path: &[u8]) -> io::Result<()> {
     replay(rt, source, ResultKind::Stream, path)
 }
 
@@ -38,7 +38,7 @@ fn replay(
     rt: &(impl Files + Print),
     source: SourceKind,
     res: ResultKind,
-    path: &str,
+    path: &[u8],
 ) -> io::Result<()> {
     let mut buffer = [0u8; BUFFER_SIZE];
     let loaded = file::load(rt, path, &mut buffer)?;
@@ -54,7 +54,7 @@ fn replay_text(
     rt: &impl Print,
     source: SourceKind,
     res: ResultKind,
-    path: &str,
+    path: &[u8],
     text: &[u8],
 ) -> io::Result<()> {
     let mut case = file::first_case(rt, path, text)?;

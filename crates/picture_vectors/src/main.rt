@@ -11,25 +11,25 @@ use std::io;
 use std::rt::Files;
 
 fn main(rt: HostRuntime) -> io::Result<()> {
-    replay_bodies(&rt, ImageKind::Rgb24, "examples-picture.txt")?;
-    replay_bodies(&rt, ImageKind::Pixels, "examples-pixels.txt")?;
-    replay_streams(&rt, ImageKind::Rgb24, "examples-stream.txt")?;
-    replay_streams(&rt, ImageKind::Pixels, "examples-stream-pixels.txt")?;
-    replay_bodies(&rt, ImageKind::Rgb24, "refusals-picture.txt")?;
-    replay_bodies(&rt, ImageKind::Pixels, "refusals-pixels.txt")?;
-    replay_streams(&rt, ImageKind::Rgb24, "refusals-stream.txt")?;
-    replay_streams(&rt, ImageKind::Pixels, "refusals-stream-pixels.txt")?;
-    replay_bodies(&rt, ImageKind::Rgb24, "picture-unpack.txt")?;
-    replay_bodies(&rt, ImageKind::Pixels, "pixels-unpack.txt")?;
-    replay_streams(&rt, ImageKind::Rgb24, "stream-unpack.txt")?;
-    replay_streams(&rt, ImageKind::Pixels, "stream-pixels-unpack.txt")
+    replay_bodies(&rt, ImageKind::Rgb24, b"examples-picture.txt")?;
+    replay_bodies(&rt, ImageKind::Pixels, b"examples-pixels.txt")?;
+    replay_streams(&rt, ImageKind::Rgb24, b"examples-stream.txt")?;
+    replay_streams(&rt, ImageKind::Pixels, b"examples-stream-pixels.txt")?;
+    replay_bodies(&rt, ImageKind::Rgb24, b"refusals-picture.txt")?;
+    replay_bodies(&rt, ImageKind::Pixels, b"refusals-pixels.txt")?;
+    replay_streams(&rt, ImageKind::Rgb24, b"refusals-stream.txt")?;
+    replay_streams(&rt, ImageKind::Pixels, b"refusals-stream-pixels.txt")?;
+    replay_bodies(&rt, ImageKind::Rgb24, b"picture-unpack.txt")?;
+    replay_bodies(&rt, ImageKind::Pixels, b"pixels-unpack.txt")?;
+    replay_streams(&rt, ImageKind::Rgb24, b"stream-unpack.txt")?;
+    replay_streams(&rt, ImageKind::Pixels, b"stream-pixels-unpack.txt")
 }
 
-fn replay_bodies(rt: &(impl Files + Print), image: ImageKind, path: &str) -> io::Result<()> {
+fn replay_bodies(rt: &(impl Files + Print), image: ImageKind, path: &[u8]) -> io::Result<()> {
     replay(rt, SourceKind::Body, image, path)
 }
 
-fn replay_streams(rt: &(impl Files + Print), image: ImageKind, path: &str) -> io::Result<()> {
+fn replay_streams(rt: &(impl Files + Print), image: ImageKind, path: &[u8]) -> io::Result<()> {
     replay(rt, SourceKind::Stream, image, path)
 }
 
@@ -38,7 +38,7 @@ fn replay(
     rt: &(impl Files + Print),
     source: SourceKind,
     image: ImageKind,
-    path: &str,
+    path: &[u8],
 ) -> io::Result<()> {
     let mut buffer = [0u8; BUFFER_SIZE];
     let loaded = file::load(rt, path, &mut buffer)?;
@@ -54,7 +54,7 @@ fn replay_text(
     rt: &impl Print,
     source: SourceKind,
     image: ImageKind,
-    path: &str,
+    path: &[u8],
     text: &[u8],
 ) -> io::Result<()> {
     let mut case = file::first_case(rt, path, text)?;

@@ -11,19 +11,19 @@ use std::io;
 use std::rt::Files;
 
 fn main(rt: HostRuntime) -> io::Result<()> {
-    replay(&rt, Operation::Unpack, "examples.txt")?;
-    replay(&rt, Operation::Pack, "examples-pack.txt")?;
-    replay(&rt, Operation::Unpack, "refusals.txt")?;
-    replay(&rt, Operation::Pack, "refusals-pack.txt")?;
-    replay(&rt, Operation::RoundTrip, "prefixes.txt")?;
-    replay(&rt, Operation::Unpack, "plane-unpack.txt")?;
-    replay(&rt, Operation::Unpack, "plane-unpack-boundaries.txt")?;
-    replay(&rt, Operation::Pack, "plane-pack.txt")?;
-    replay(&rt, Operation::Pack, "plane-pack-boundaries.txt")
+    replay(&rt, Operation::Unpack, b"examples.txt")?;
+    replay(&rt, Operation::Pack, b"examples-pack.txt")?;
+    replay(&rt, Operation::Unpack, b"refusals.txt")?;
+    replay(&rt, Operation::Pack, b"refusals-pack.txt")?;
+    replay(&rt, Operation::RoundTrip, b"prefixes.txt")?;
+    replay(&rt, Operation::Unpack, b"plane-unpack.txt")?;
+    replay(&rt, Operation::Unpack, b"plane-unpack-boundaries.txt")?;
+    replay(&rt, Operation::Pack, b"plane-pack.txt")?;
+    replay(&rt, Operation::Pack, b"plane-pack-boundaries.txt")
 }
 
 // Replays the cases of the file at `path`, which are all of one kind.
-fn replay(rt: &(impl Files + Print), operation: Operation, path: &str) -> io::Result<()> {
+fn replay(rt: &(impl Files + Print), operation: Operation, path: &[u8]) -> io::Result<()> {
     let mut buffer = [0u8; BUFFER_SIZE];
     let loaded = file::load(rt, path, &mut buffer)?;
     if loaded.failed {
@@ -34,7 +34,7 @@ fn replay(rt: &(impl Files + Print), operation: Operation, path: &str) -> io::Re
 }
 
 // The same for a file that was loaded.
-fn replay_text(rt: &impl Print, operation: Operation, path: &str, text: &[u8]) -> io::Result<()> {
+fn replay_text(rt: &impl Print, operation: Operation, path: &[u8], text: &[u8]) -> io::Result<()> {
     let mut case = file::first_case(rt, path, text)?;
     while case.start < case.end {
         let start = case.start;
