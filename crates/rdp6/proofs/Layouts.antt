@@ -14,12 +14,12 @@ use Rattle.rle_format.specs.Choice.{choose}
 use Rattle.rle_format.specs.Sides.{check_sides_of}
 use Rattle.bitmap_format.specs.declared.BitmapStreamHeader.{BitmapStreamHeader}
 use Rattle.bitmap_format.specs.HeaderByte.{header_from_byte_of}
-use Rattle.bitmap_format.specs.Picture.{PictureOutcome}
 use Rattle.bitmap_format.specs.Stream as format
 use Rattle.bitmap_format.specs.Stream.{split_rest, split_stream_of, unpack_split, unpack_stream_by}
 use Rattle.bitmap_stream.specs.declared.Split.{Split}
 use Rattle.bitmap_stream.specs.declared.Split.TheVariants.{Body, Refused}
 use Rattle.bitmap_stream.specs.Split.{split_of}
+use Rattle.rdp6.specs.declared.CLayout.{CLayout}
 use Rattle.rdp6.specs.declared.CLayout.TheVariants.{Unknown}
 use Rattle.rdp6.specs.Number.{c_number}
 use Rattle.rdp6.specs.Layout.{c_layout, unknown_layout, unchanged_picture, c_unpack_pixels, c_unpack_pixel_stream, unknown_layout_of_stream}
@@ -57,6 +57,12 @@ unknown_stream w h stream work image = go (split_stream_of stream)
         ≡ unchanged_picture work image (unpack_split (λ (header : BitmapStreamHeader) (body : List ℕ). c_unpack_pixels Unknown header w h body [] []) [] [] s).answer
     go (format.split header body) = refl
     go (format.split_refused r) = refl
+
+-- so of a layout that means none
+pub unknown_stream_by : (w h : ℕ) (stream work image : List ℕ) (layout : CLayout) → layout ≡ Unknown
+    → unchanged_picture work image (unknown_layout_of_stream w h stream) ≡ c_unpack_pixel_stream layout w h stream work image
+unknown_stream_by w h stream work image layout is =
+    sym (ap (λ (l : CLayout). c_unpack_pixel_stream l w h stream work image) is ∙ unknown_stream w h stream work image)
 
 -- s is what split_stream returns
 module _ (w h : ℕ) (stream : List ℕ) (s : Split) (e : split_of stream s ≡ split_stream_of stream) where

@@ -6,8 +6,8 @@ use Prim.Native.Nat.{ℕ, zero, suc, ◌≤◌, ◌<◌}
 use lib.ListN.{length}
 use native.Mathlib.Omega.{arith}
 use lib.IntN.{ℤ, pos, neg_ℤ, ◌-ℤ◌, +ℤ_idl}
-use mir.Facts.{to_z_pos}
-use mir.Val.{SFits, to_z}
+use mir.Facts.{to_z-of_z, to_z_pos}
+use mir.Val.{SFits, to_z, of_z}
 use mir.Syntax.{w64}
 use Rattle.rle_format.specs.declared.Unpacked.{Unpacked}
 use Rattle.rle_format.specs.declared.Unpacked.TheVariants as unpacked
@@ -33,6 +33,12 @@ count_fits n h = record { sfits = omega arith }
 pub refusal_fits : (r : ℕ) → r ≤ 255 → SFits w64 (neg_ℤ (pos r))
 refusal_fits zero h = record { sfits = omega arith }
 refusal_fits (suc r) h = record { sfits = omega arith }
+
+-- the number of an answer, read back from 64 bits
+pub read_back : (n : ℤ) (a b : Answer) → SFits w64 (c_number a) → n ≡ c_number a → a ≡ b → to_z w64 (of_z w64 n) ≡ c_number b
+read_back n a b f e is =
+    let g : SFits w64 n = rw e f in
+    to_z-of_z g ∙ e ∙ ap c_number is
 
 -- what the code computes of a refusal's number n, a byte that it has widened
 pub negated_number : (n r : ℕ) → n ≡ r → r ≤ 255 → pos 0 -ℤ to_z w64 n ≡ neg_ℤ (pos r)

@@ -1,0 +1,26 @@
+-- `rdp6_encode_bitmap`: an unknown layout writes nothing; a picture that was packed has fewer bytes than a slice can have.
+use Rattle.std.proofs.Common.{false, length, sym, ap, ◌∙◌, arith}
+use Rattle.rle_format.proofs.Outcome.{stop_writes_nothing}
+use Rattle.rdp6.specs.Layout.{c_pack_pixels, unknown_layout}
+use Rattle.rdp6.proofs.Layouts.{unknown_fits}
+use Rattle.rdp6.proofs.Numbers.{read_back, answer_without_header, encoded_count_max}
+use Rattle.rdp6.proofs.rdp6_encode_bitmap.Goals as goal
+
+pub returns-in_default-clause-answer : goal.returns-in_default-clause-answer
+returns-in_default-clause-answer c =
+    let a = c.args in
+    let is = sym c.layout_of-known.ensures ∙ c.in_default.is in
+    let left = stop_writes_nothing a.dst.now _ (unknown_layout a.width a.height) (ap (c_pack_pixels false a.rle a.width a.height (length a.dst.now) a.src.now) is) in
+    read_back c.layout_refusal.result _ _ (unknown_fits a.width a.height) c.layout_refusal.ensures left.0
+
+pub returns-in_default-clause-slice : goal.returns-in_default-clause-slice
+returns-in_default-clause-slice c =
+    let a = c.args in
+    let is = sym c.layout_of-known.ensures ∙ c.in_default.is in
+    let left = stop_writes_nothing a.dst.now _ (unknown_layout a.width a.height) (ap (c_pack_pixels false a.rle a.width a.height (length a.dst.now) a.src.now) is) in
+    left.1
+
+pub encoded_number-requires : goal.encoded_number-requires
+encoded_number-requires c =
+    let p = c.encode_bitmap_body-answer in
+    encoded_count_max _ _ _ _ _ p.result (answer_without_header p.result _ _ p.ensures.answer) (omega arith)

@@ -1,0 +1,10 @@
+-- `rdp6_stream_encode_channels_alpha`: a stream that was packed has fewer bytes than a slice can have.
+use Rattle.std.proofs.Common.{true, arith}
+use Rattle.rdp6.proofs.Numbers.{stream_count_max}
+use Rattle.rdp6.proofs.rdp6_stream_encode_channels_alpha.Goals as goal
+
+pub packed_number-requires : goal.packed_number-requires
+packed_number-requires c =
+    let a = c.args in
+    let p = c.encode_channels_stream_alpha in
+    stream_count_max true a.rle a.width a.height _ a.dst.now p.result p.ensures.answer (omega arith)
