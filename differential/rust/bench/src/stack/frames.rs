@@ -39,6 +39,9 @@ enum Step {
     Return,
     /// Touches so many bytes below the stack's end, which a function may do that calls nothing after.
     Below(usize),
+    /// Takes so many bytes from r11; and compares the stack's end with r11. A loop that takes a large frame in parts, and touches each, has both.
+    Limit(usize),
+    AtLimit,
     Other,
 }
 
@@ -101,7 +104,8 @@ fn step(instruction: &str) -> Option<Step> {
     let (name, operands) = instruction.split_once(char::is_whitespace).unwrap_or((instruction, ""));
     let operands = operands.trim();
     let (target, function) = operands.split_once(" <").unwrap_or((operands, ""));
-    let constant = || operands.strip_prefix('$').and_then(|rest| hexadecimal(rest.strip_suffix(",%rsp")?));
+    let constant =
+        |register: &str| operands.strip_prefix('$').and_then(|rest| hexadecimal(rest.strip_suffix(register)?));
     let step = match name {
         "jmp" if operands.starts_with("*%") => Step::Table(Vec::new()),
         _ if operands.contains('*') => return None,
@@ -110,12 +114,33 @@ fn step(instruction: &str) -> Option<Step> {
         "ret" => Step::Return,
         "call" => Step::Call(function.trim_end_matches('>').to_owned()),
         _ if name.starts_with('j') => Step::Jump { to: hexadecimal(target)?, always: name == "jmp" },
-        "sub" if operands.ends_with(",%rsp") => Step::Down(constant()?),
-        "add" if operands.ends_with(",%rsp") => Step::Up(constant()?),
+        "sub" if operands.ends_with(",%rsp") => Step::Down(constant(",%rsp")?),
+        "add" if operands.ends_with(",%rsp") => Step::Up(constant(",%rsp")?),
+        "sub" if operands.ends_with(",%r11") => constant(",%r11").map_or(Step::Other, Step::Limit),
+        "cmp" if operands == "%r11,%rsp" => Step::AtLimit,
         _ if operands.ends_with(",%rsp") || operands == "%rsp" || name == "leave" => return None,
         _ => below(operands).map_or(Step::Other, Step::Below),
     };
     Some(step)
+}
+
+/// Has each loop that takes the stack down to a limit take it at once. Such a loop is `sub $LIMIT,%r11` behind a copy of the stack's end; then,
+/// again and again, `sub $PART,%rsp`, a store there, the comparison with r11 and a jump back. Whether it is so; if not, it is not understood.
+fn unroll(code: &mut Code) -> bool {
+    for at in 0..code.len() {
+        if matches!(code[at].1, Step::AtLimit) {
+            let [.., (_, Step::Limit(limit)), (begin, Step::Down(part)), (_, Step::Other)] = code[..at] else {
+                return false;
+            };
+            let Some((_, Step::Jump { to, always: false })) = code.get(at + 1) else { return false };
+            if *to != begin || limit % part != 0 {
+                return false;
+            }
+            code[at - 2].1 = Step::Down(limit);
+            code[at + 1].1 = Step::Other;
+        }
+    }
+    true
 }
 
 /// The relocation of a call or a jump, such as `.text.rle_encoder::compress_8bpp_channel-0x4`, says where it goes.
@@ -148,6 +173,9 @@ impl Frames {
         }
         let tables = tables();
         for (name, code) in &mut functions {
+            if !unroll(code) {
+                stop(&format!("{name} takes the stack in a loop that is not understood"));
+            }
             let addresses: HashSet<usize> = code.iter().map(|(address, _)| *address).collect();
             let jumps: Vec<&mut Step> =
                 code.iter_mut().map(|(_, step)| step).filter(|step| matches!(step, Step::Table(_))).collect();
