@@ -39,8 +39,7 @@ pub fn load(
 ) -> io::Result<Loaded>
     ensures { IfOk result (λ loaded. loaded.size ≤ length buffer.new) }
 {
-    let path = report::text_of_path(path);
-    let Ok(mut file) = fs::open(rt, path) else {
+    let Some(mut file) = open(rt, path) else {
         report::print_error(rt, path, "cannot be opened")?;
         return Ok(not_loaded());
     };
@@ -53,6 +52,17 @@ pub fn load(
         failed: false,
         size,
     })
+}
+
+// The file at `path`, if it can be opened. std takes paths as text, so bytes that are no text are no path of a file.
+fn open<R: Files>(rt: &R, path: &[u8]) -> Option<R::File> {
+    let Ok(text) = str::from_utf8(path) else {
+        return None;
+    };
+    match fs::open(rt, text) {
+        Ok(file) => Some(file),
+        Err(_) => None,
+    }
 }
 
 // Reads into the first bytes of the buffer until it is full, the file ends or a read fails, and returns how many bytes were read.
@@ -82,7 +92,6 @@ fn not_loaded() -> Loaded
 pub fn first_case(rt: &impl Print, path: &[u8], text: &[u8]) -> io::Result<Position>
     ensures { IfOk result (λ first. (first.start ≤ first.end) × (first.end ≤ length text.now)) }
 {
-    let path = report::text_of_path(path);
     let tally = report::new_tally();
     case_from(rt, path, text, 0, 0, tally)
 }
@@ -99,7 +108,6 @@ pub fn next_case(
     ensures start_le_end { IfOk result (λ next. (next.start ≤ next.end) × (next.end ≤ length text.now)) }
     ensures text_bound { IfOk result (λ next. min position.end (length text.now) ≤ next.start) }
 {
-    let path = report::text_of_path(path);
     let tally = position.tally;
     let counted = report::add_result(rt, path, position.line, tally, res)?;
     if text.len() < position.end {
@@ -111,7 +119,7 @@ pub fn next_case(
 // The first case that begins at `start`, which is after `line` lines, or later. Without one it prints the tally.
 fn case_from(
     rt: &impl Print,
-    path: &str,
+    path: &[u8],
     text: &[u8],
     start: usize,
     line: usize,

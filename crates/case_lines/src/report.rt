@@ -112,7 +112,7 @@ pub(crate) fn new_tally() -> Tally {
 // The tally with one more result, that of line `line`. Prints what is wrong with the line, unless that was printed for enough lines.
 pub(crate) fn add_result(
     rt: &impl Print,
-    path: &str,
+    path: &[u8],
     line: usize,
     tally: Tally,
     res: LineResult,
@@ -154,34 +154,26 @@ pub(crate) fn saturating_add(a: usize, b: usize) -> usize {
     a + b
 }
 
-// A path as text, as std takes it. Bytes that are no text become the empty path, which no file has.
-pub(crate) fn text_of_path(path: &[u8]) -> &str {
-    match str::from_utf8(path) {
-        Ok(text) => text,
-        Err(_) => "",
-    }
-}
-
 // Prints why a file could not be replayed.
-pub(crate) fn print_error(rt: &impl Print, path: &str, why: &str) -> io::Result<()> {
-    println!(rt; "{path}: {why}")
+pub(crate) fn print_error(rt: &impl Print, path: &[u8], why: &str) -> io::Result<()> {
+    rt.write_all(path)?;
+    println!(rt; ": {why}")
 }
 
 // Prints the tally of a file.
-pub(crate) fn print_tally(rt: &impl Print, path: &str, tally: Tally) -> io::Result<()> {
+pub(crate) fn print_tally(rt: &impl Print, path: &[u8], tally: Tally) -> io::Result<()> {
     let Tally {
         equal,
         different,
         malformed,
     } = tally;
     let cases = saturating_add(equal, different);
-    println!(rt;
-        "{path}: {cases} cases, {equal} equal, {different} different, {malformed} bad lines"
-    )
+    rt.write_all(path)?;
+    println!(rt; ": {cases} cases, {equal} equal, {different} different, {malformed} bad lines")
 }
 
 // Prints what is wrong with a line. For a case that gave the stored result it prints nothing.
-fn print_result(rt: &impl Print, path: &str, line: usize, res: LineResult) -> io::Result<()> {
+fn print_result(rt: &impl Print, path: &[u8], line: usize, res: LineResult) -> io::Result<()> {
     match res {
         LineResult::Equal => Ok(()),
         LineResult::Malformed => {
@@ -208,8 +200,9 @@ fn print_result(rt: &impl Print, path: &str, line: usize, res: LineResult) -> io
     }
 }
 
-fn print_location(rt: &impl Print, path: &str, line: usize) -> io::Result<()> {
-    print!(rt; "{path}, line {line}: ")
+fn print_location(rt: &impl Print, path: &[u8], line: usize) -> io::Result<()> {
+    rt.write_all(path)?;
+    print!(rt; ", line {line}: ")
 }
 
 fn print_difference(
