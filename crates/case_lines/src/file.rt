@@ -1,11 +1,11 @@
 // A data file: loaded completely, its cases found one after the other, and its tally printed after the last one.
-ghost use Rattle.std.specs.Prelude.{◌≡◌, ◌≤◌, IfOk, min, length};
+ghost use Rattle.std.specs.Prelude.{◌≡◌, ◌≤◌, min, length};
 
 use crate::report::{LineResult, Tally};
 use crate::{read, report};
+use std::fs;
 use std::io::Read;
 use std::rt::Files;
-use std::{fs, io};
 
 // The largest file: 1 MiB.
 const MAX_FILE_SIZE: usize = 1_048_576;
@@ -30,28 +30,23 @@ pub struct Position {
     tally: Tally,
 }
 
-// Loads the file at `path` into the first bytes of the buffer. If it cannot be loaded, it prints why. An error is one of printing; it comes
-// before anything is read or after all was.
-pub fn load(
-    rt: &(impl Files + Print),
-    path: &[u8],
-    buffer: &mut [u8; BUFFER_SIZE],
-) -> io::Result<Loaded>
-    ensures { IfOk result (λ loaded. loaded.size ≤ length buffer.new) }
+// Loads the file at `path` into the first bytes of the buffer. If it cannot be loaded, it prints why.
+pub fn load(rt: &(impl Files + Print), path: &[u8], buffer: &mut [u8; BUFFER_SIZE]) -> Loaded
+    ensures { result.size ≤ length buffer.new }
 {
     let Some(mut file) = open(rt, path) else {
-        report::print_error(rt, path, "cannot be opened")?;
-        return Ok(not_loaded());
+        report::print_error(rt, path, "cannot be opened");
+        return not_loaded();
     };
     let size = read_full(&mut file, buffer);
     if MAX_FILE_SIZE < size {
-        report::print_error(rt, path, "is larger than 1 MiB")?;
-        return Ok(not_loaded());
+        report::print_error(rt, path, "is larger than 1 MiB");
+        return not_loaded();
     }
-    Ok(Loaded {
+    Loaded {
         failed: false,
         size,
-    })
+    }
 }
 
 // The file at `path`, if it can be opened. std takes paths as text, so bytes that are no text are no path of a file.
@@ -88,9 +83,9 @@ fn not_loaded() -> Loaded
     }
 }
 
-// The first case of the text. An error is one of printing, here and below, and nothing that was lent is changed.
-pub fn first_case(rt: &impl Print, path: &[u8], text: &[u8]) -> io::Result<Position>
-    ensures { IfOk result (λ first. (first.start ≤ first.end) × (first.end ≤ length text.now)) }
+// The first case of the text.
+pub fn first_case(rt: &impl Print, path: &[u8], text: &[u8]) -> Position
+    ensures { (result.start ≤ result.end) × (result.end ≤ length text.now) }
 {
     let tally = report::new_tally();
     case_from(rt, path, text, 0, 0, tally)
@@ -104,12 +99,12 @@ pub fn next_case(
     text: &[u8],
     position: Position,
     res: LineResult,
-) -> io::Result<Position>
-    ensures start_le_end { IfOk result (λ next. (next.start ≤ next.end) × (next.end ≤ length text.now)) }
-    ensures text_bound { IfOk result (λ next. min position.end (length text.now) ≤ next.start) }
+) -> Position
+    ensures start_le_end { (result.start ≤ result.end) × (result.end ≤ length text.now) }
+    ensures text_bound { min position.end (length text.now) ≤ result.start }
 {
     let tally = position.tally;
-    let counted = report::add_result(rt, path, position.line, tally, res)?;
+    let counted = report::add_result(rt, path, position.line, tally, res);
     if text.len() < position.end {
         return case_from(rt, path, text, text.len(), position.line, counted);
     }
@@ -124,15 +119,15 @@ fn case_from(
     start: usize,
     line: usize,
     tally: Tally,
-) -> io::Result<Position>
+) -> Position
     requires { start ≤ length text.now }
-    ensures { IfOk result (λ case. (start ≤ case.start) × (case.start ≤ case.end) × (case.end ≤ length text.now)) }
+    ensures { (start ≤ result.start) × (result.start ≤ result.end) × (result.end ≤ length text.now) }
 {
     let position = skip_comments(text, start, line, tally);
     if position.start == position.end {
-        report::print_tally(rt, path, tally)?;
+        report::print_tally(rt, path, tally);
     }
-    Ok(position)
+    position
 }
 
 // The same without printing.

@@ -116,11 +116,11 @@ pub(crate) fn add_result(
     line: usize,
     tally: Tally,
     res: LineResult,
-) -> io::Result<Tally> {
+) -> Tally {
     if saturating_add(tally.different, tally.malformed) < MAX_REPORTED_LINES {
-        print_result(rt, path, line, res)?;
+        lose_error(print_result(rt, path, line, res));
     }
-    Ok(match res {
+    match res {
         LineResult::Equal => Tally {
             equal: saturating_add(tally.equal, 1),
             different: tally.different,
@@ -142,7 +142,7 @@ pub(crate) fn add_result(
             different: tally.different,
             malformed: saturating_add(tally.malformed, 1),
         },
-    })
+    }
 }
 
 // The sum of two counts, or the largest number where it is larger. No file has so many lines; the test is there so that the
@@ -154,14 +154,29 @@ pub(crate) fn saturating_add(a: usize, b: usize) -> usize {
     a + b
 }
 
+// Output that cannot be written is lost, and what was to be replayed is replayed all the same.
+fn lose_error(printed: io::Result<()>) {
+    match printed {
+        Ok(()) | Err(_) => {}
+    }
+}
+
 // Prints why a file could not be replayed.
-pub(crate) fn print_error(rt: &impl Print, path: &[u8], why: &str) -> io::Result<()> {
+pub(crate) fn print_error(rt: &impl Print, path: &[u8], why: &str) {
+    lose_error(write_error(rt, path, why));
+}
+
+fn write_error(rt: &impl Print, path: &[u8], why: &str) -> io::Result<()> {
     rt.write_all(path)?;
     println!(rt; ": {why}")
 }
 
 // Prints the tally of a file.
-pub(crate) fn print_tally(rt: &impl Print, path: &[u8], tally: Tally) -> io::Result<()> {
+pub(crate) fn print_tally(rt: &impl Print, path: &[u8], tally: Tally) {
+    lose_error(write_tally(rt, path, tally));
+}
+
+fn write_tally(rt: &impl Print, path: &[u8], tally: Tally) -> io::Result<()> {
     let Tally {
         equal,
         different,

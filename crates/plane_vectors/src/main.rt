@@ -7,40 +7,38 @@ mod plane;
 use case_lines::file;
 use case_lines::file::BUFFER_SIZE;
 use plane::Operation;
-use std::io;
 use std::rt::Files;
 
-fn main(rt: HostRuntime) -> io::Result<()> {
-    replay(&rt, Operation::Unpack, b"examples.txt")?;
-    replay(&rt, Operation::Pack, b"examples-pack.txt")?;
-    replay(&rt, Operation::Unpack, b"refusals.txt")?;
-    replay(&rt, Operation::Pack, b"refusals-pack.txt")?;
-    replay(&rt, Operation::RoundTrip, b"prefixes.txt")?;
-    replay(&rt, Operation::Unpack, b"plane-unpack.txt")?;
-    replay(&rt, Operation::Unpack, b"plane-unpack-boundaries.txt")?;
-    replay(&rt, Operation::Pack, b"plane-pack.txt")?;
-    replay(&rt, Operation::Pack, b"plane-pack-boundaries.txt")
+fn main(rt: HostRuntime) {
+    replay(&rt, Operation::Unpack, b"examples.txt");
+    replay(&rt, Operation::Pack, b"examples-pack.txt");
+    replay(&rt, Operation::Unpack, b"refusals.txt");
+    replay(&rt, Operation::Pack, b"refusals-pack.txt");
+    replay(&rt, Operation::RoundTrip, b"prefixes.txt");
+    replay(&rt, Operation::Unpack, b"plane-unpack.txt");
+    replay(&rt, Operation::Unpack, b"plane-unpack-boundaries.txt");
+    replay(&rt, Operation::Pack, b"plane-pack.txt");
+    replay(&rt, Operation::Pack, b"plane-pack-boundaries.txt");
 }
 
 // Replays the cases of the file at `path`, which are all of one kind.
-fn replay(rt: &(impl Files + Print), operation: Operation, path: &[u8]) -> io::Result<()> {
+fn replay(rt: &(impl Files + Print), operation: Operation, path: &[u8]) {
     let mut buffer = [0u8; BUFFER_SIZE];
-    let loaded = file::load(rt, path, &mut buffer)?;
+    let loaded = file::load(rt, path, &mut buffer);
     if loaded.failed {
-        return Ok(());
+        return;
     }
     let size = loaded.size;
-    replay_text(rt, operation, path, &buffer[0..size])
+    replay_text(rt, operation, path, &buffer[0..size]);
 }
 
 // The same for a file that was loaded.
-fn replay_text(rt: &impl Print, operation: Operation, path: &[u8], text: &[u8]) -> io::Result<()> {
-    let mut case = file::first_case(rt, path, text)?;
+fn replay_text(rt: &impl Print, operation: Operation, path: &[u8], text: &[u8]) {
+    let mut case = file::first_case(rt, path, text);
     while case.start < case.end {
         let start = case.start;
         let end = case.end;
         let result = plane::replay(operation, &text[start..end]);
-        case = file::next_case(rt, path, text, case, result)?;
+        case = file::next_case(rt, path, text, case, result);
     }
-    Ok(())
 }
