@@ -1,16 +1,13 @@
--- The numbers of the refusals are different, so that a contract `to_answer r ≡ a` or `packed_to_answer r ≡ a` determines r; and each fits a byte.
+-- The numbers of the refusals are different, so that a contract `to_answer r ≡ a` determines r; and each fits a byte.
 use mathlib.Core.Path.{◌≡◌, refl, sym, ap, ◌∙◌}
 use Prim.Native.Nat.{ℕ, ◌≤◌}
+use Rattle.std.specs.Prelude.{Result, Ok, Err}
 use native.Mathlib.Omega.{arith}
 use lib.Dec.{eqb}
 use Rattle.rle_format.specs.Choice.{choose}
 use Rattle.rle_format.specs.declared.Refusal.{Refusal}
 use Rattle.rle_format.specs.declared.Refusal.TheVariants.{ZeroSize, TooLarge, LossLevel, InvalidUncompressedDataSize, ShortWork, ShortImage, ReadCompressedData, InvalidSegmentHeader, SegmentDoNotFitScanline, ShortPlane, NotEnoughBytes, BufferTooSmall, EmptyStream, MissingPad}
-use Rattle.rle_format.specs.declared.Unpacked.{Unpacked}
-use Rattle.rle_format.specs.declared.Unpacked.TheVariants as unpacked
-use Rattle.rle_format.specs.declared.Packed.{Packed}
-use Rattle.rle_format.specs.declared.Packed.TheVariants as packed
-use Rattle.rle_format.specs.Answer.{Answer, counted, refused, number, to_answer, packed_to_answer}
+use Rattle.rle_format.specs.Answer.{Answer, counted, refused, number, to_answer}
 
 -- a count is no refusal
 pub refused_not_counted : {r n : ℕ} {X : Type 0} → refused r ≡ counted n → X
@@ -69,24 +66,13 @@ number_max MissingPad = omega arith
 pub number_injective : (r s : Refusal) → number r ≡ number s → r ≡ s
 number_injective r s e = sym (refusal_with_number_number r) ∙ ap refusal_with_number e ∙ refusal_with_number_number s
 
-abbrev from_answer : Answer → Unpacked
-from_answer (counted n) = unpacked.Read n
-from_answer (refused k) = unpacked.Refused (refusal_with_number k)
+abbrev from_answer : Answer → Result ℕ Refusal
+from_answer (counted n) = Ok n
+from_answer (refused k) = Err (refusal_with_number k)
 
-from_answer-to_answer : (r : Unpacked) → from_answer (to_answer r) ≡ r
-from_answer-to_answer (unpacked.Read n) = refl
-from_answer-to_answer (unpacked.Refused r) = ap (λ (k : Refusal). unpacked.Refused k) (refusal_with_number_number r)
+from_answer-to_answer : (r : Result ℕ Refusal) → from_answer (to_answer r) ≡ r
+from_answer-to_answer (Ok n) = refl
+from_answer-to_answer (Err r) = ap (λ (k : Refusal). Err k) (refusal_with_number_number r)
 
-pub to_answer_injective : (r s : Unpacked) → to_answer r ≡ to_answer s → r ≡ s
+pub to_answer_injective : (r s : Result ℕ Refusal) → to_answer r ≡ to_answer s → r ≡ s
 to_answer_injective r s e = sym (from_answer-to_answer r) ∙ ap from_answer e ∙ from_answer-to_answer s
-
-abbrev packed_from_answer : Answer → Packed
-packed_from_answer (counted n) = packed.Written n
-packed_from_answer (refused k) = packed.Refused (refusal_with_number k)
-
-packed_from_answer-packed_to_answer : (r : Packed) → packed_from_answer (packed_to_answer r) ≡ r
-packed_from_answer-packed_to_answer (packed.Written n) = refl
-packed_from_answer-packed_to_answer (packed.Refused r) = ap (λ (k : Refusal). packed.Refused k) (refusal_with_number_number r)
-
-pub packed_to_answer_injective : (r s : Packed) → packed_to_answer r ≡ packed_to_answer s → r ≡ s
-packed_to_answer_injective r s e = sym (packed_from_answer-packed_to_answer r) ∙ ap packed_from_answer e ∙ packed_from_answer-packed_to_answer s

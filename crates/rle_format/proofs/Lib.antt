@@ -2,6 +2,7 @@ pub mod Examples
 pub mod Answer
 pub mod Cases
 pub mod Sides
+pub mod CheckedSides
 pub mod Slice
 pub mod Delta
 pub mod Segment

@@ -1,6 +1,7 @@
 -- Segments written one list after another: the invariant of the packer's loops. All its loops use these laws.
 use mathlib.Core.Path.{◌≡◌, refl, sym, ap, ◌∙◌}
 use mathlib.Core.Logic.{⊎_elim}
+use Rattle.std.specs.Prelude.{Result, Ok, Err}
 use mathlib.Core.List.{List, [], ◌∷◌, ◌++◌, append-nil}
 use Prim.Native.Nat.{ℕ, ◌+◌, ◌-◌, ◌≤◌, ◌<◌}
 use native.Mathlib.Nat.{zero-add}
@@ -8,9 +9,7 @@ use native.Mathlib.Omega.{arith}
 use lib.ListN.{length, set, length-drop}
 use Rattle.rle_format.specs.declared.Refusal.{Refusal}
 use Rattle.rle_format.specs.declared.Refusal.TheVariants.{BufferTooSmall}
-use Rattle.rle_format.specs.declared.Packed.{Packed}
-use Rattle.rle_format.specs.declared.Packed.TheVariants.{Written, Refused}
-use Rattle.rle_format.specs.Answer.{Answer, counted, refused, Outcome, stop, add_count, prepend, number, packed_to_answer}
+use Rattle.rle_format.specs.Answer.{Answer, counted, refused, Outcome, stop, add_count, prepend, number, to_answer}
 use Rattle.rle_format.specs.Slice.{overwrite, write_at}
 use Rattle.rle_format.specs.Segment.{Segment, segment_size, control_byte, segment_bytes, segments_bytes}
 use Rattle.rle_format.specs.Pack.{write_segments}
@@ -40,8 +39,8 @@ module _ (ss : List Segment) (d : List ℕ) (at : ℕ) where
 
 -- ---- the answer of a call that writes segments into d from `at` on, and the slice after it
 
-abbrev pub Wrote : List Segment → (d now : List ℕ) (at : ℕ) → Packed → Type 0
-Wrote ss d now at r = (packed_to_answer r ≡ answer_at ss d at) × (now ≡ slice_at ss d at)
+abbrev pub Wrote : List Segment → (d now : List ℕ) (at : ℕ) → Result ℕ Refusal → Type 0
+Wrote ss d now at r = (to_answer r ≡ answer_at ss d at) × (now ≡ slice_at ss d at)
 
 -- if the answer is an index, all segments fit, and the index is behind them
 record AllFit (ss : List Segment) (d : List ℕ) (at next : ℕ) : Type 0 where
@@ -122,10 +121,10 @@ module _ {whole rest : List Segment} {d now : List ℕ} {at to : ℕ} (head : Wr
       }
 
   -- the first of what is left were written
-  pub write_next : (xs later : List Segment) (then : List ℕ) (r : Packed) (next : ℕ) → rest ≡ xs ++ later → Wrote xs now then to r → r ≡ Written next
+  pub write_next : (xs later : List Segment) (then : List ℕ) (r : Result ℕ Refusal) (next : ℕ) → rest ≡ xs ++ later → Wrote xs now then to r → r ≡ Ok next
       → WriteInvariant whole later d then at next
   write_next xs later then r next e w answered =
-      let known = all_fit xs now to next (ap packed_to_answer (sym answered) ∙ w.0) in
+      let known = all_fit xs now to next (ap to_answer (sym answered) ∙ w.0) in
       let long : length then ≡ length now = ap length w.1 ∙ length_slice_at xs now to head.within in
       let here = head.within in
       record {
@@ -144,20 +143,20 @@ module _ {whole rest : List Segment} {d now : List ℕ} {at to : ℕ} (head : Wr
       }
 
   -- they do not all fit
-  pub write_stop : (xs later : List Segment) (then : List ℕ) (r : Packed) (k : Refusal) → rest ≡ xs ++ later → Wrote xs now then to r → r ≡ Refused k
+  pub write_stop : (xs later : List Segment) (then : List ℕ) (r : Result ℕ Refusal) (k : Refusal) → rest ≡ xs ++ later → Wrote xs now then to r → r ≡ Err k
       → Wrote whole d then at r
   write_stop xs later then r k e w answered =
-      let out = not_all_fit xs now to (number k) (ap packed_to_answer (sym answered) ∙ w.0) in (
+      let out = not_all_fit xs now to (number k) (ap to_answer (sym answered) ∙ w.0) in (
         w.0 ∙ answer_at-append_no_room xs later now to head.within out ∙ ap (λ (ss : List Segment). answer_at ss now to) (sym e) ∙ head.answers,
         w.1 ∙ slice_at_append_no_room xs later now to head.within out ∙ ap (λ (ss : List Segment). slice_at ss now to) (sym e) ∙ head.slices,
       )
 
   -- a call has written all that is left
-  pub write_last : (then : List ℕ) (r : Packed) → Wrote rest now then to r → Wrote whole d then at r
+  pub write_last : (then : List ℕ) (r : Result ℕ Refusal) → Wrote rest now then to r → Wrote whole d then at r
   write_last then r w = (w.0 ∙ head.answers, w.1 ∙ head.slices)
 
   -- nothing is left
-  pub write_end : rest ≡ [] → Wrote whole d now at (Written to)
+  pub write_end : rest ≡ [] → Wrote whole d now at (Ok to)
   write_end e =
       let all : to + 0 ≡ to = omega arith in (
         sym (answer_at_fits [] now to (omega arith) ∙ ap counted all) ∙ ap (λ (ss : List Segment). answer_at ss now to) (sym e) ∙ head.answers,
@@ -171,7 +170,7 @@ module _ (s : Segment) (d : List ℕ) (at : ℕ) where
   length_one_segment = ap length (append-nil (segment_bytes s)) ∙ omega arith
 
   -- it does not fit
-  pub wrote_refused : length d - at < segment_size s → Wrote (s ∷ []) d d at (Refused BufferTooSmall)
+  pub wrote_refused : length d - at < segment_size s → Wrote (s ∷ []) d d at (Err BufferTooSmall)
   unfolding slice_at stop
   wrote_refused h = (
     sym (answer_at_no_room (s ∷ []) d at (omega (arith, length_one_segment))),
@@ -180,7 +179,7 @@ module _ (s : Segment) (d : List ℕ) (at : ℕ) where
 
   -- its control byte was stored, and its raw bytes behind it
   pub wrote_one : (now : List ℕ) (c n : ℕ) → at ≤ length d → segment_size s ≤ length d - at → c ≡ control_byte s → n ≡ at + segment_size s
-      → now ≡ write_at (set d at c) (at + 1) s.raw → Wrote (s ∷ []) d now at (Written n)
+      → now ≡ write_at (set d at c) (at + 1) s.raw → Wrote (s ∷ []) d now at (Ok n)
   wrote_one now c n h fits ec en e =
       let all : length (segments_bytes (s ∷ [])) ≤ length d - at = omega (arith, length_one_segment) in (
         ap counted (en ∙ ap (λ (k : ℕ). at + k) (sym length_one_segment)) ∙ sym (answer_at_fits (s ∷ []) d at all),
@@ -194,7 +193,7 @@ module _ (s : Segment) (d : List ℕ) (at : ℕ) where
 
 -- ---- segments that a call wrote into the part of d from `at` on, which is ys afterwards
 
-module _ (ss : List Segment) (d ys : List ℕ) (at : ℕ) (r : Packed) (answered : packed_to_answer r ≡ (write_segments ss (length (suffix d at))).answer)
+module _ (ss : List Segment) (d ys : List ℕ) (at : ℕ) (r : Result ℕ Refusal) (answered : to_answer r ≡ (write_segments ss (length (suffix d at))).answer)
     (left : ys ≡ overwrite (suffix d at) (write_segments ss (length (suffix d at))).written) where
   part_room : length (suffix d at) ≡ length d - at
   part_room = ap length (suffix_drop d at) ∙ length-drop at d
@@ -203,19 +202,19 @@ module _ (ss : List Segment) (d ys : List ℕ) (at : ℕ) (r : Packed) (answered
   unfolding slice_at
   part_slice = suffix_overwrite d ys (write_segments ss (length (suffix d at))).written at left ∙ ap (λ (n : ℕ). write_at d at (write_segments ss n).written) part_room
 
-  part_answer : (a : Answer) → packed_to_answer r ≡ a → add_count at a ≡ answer_at ss d at
+  part_answer : (a : Answer) → to_answer r ≡ a → add_count at a ≡ answer_at ss d at
   unfolding answer_at
   part_answer a e = ap (add_count at) (sym e ∙ answered ∙ ap (λ (n : ℕ). (write_segments ss n).answer) part_room)
 
-  pub part_refused : (k : Refusal) → r ≡ Refused k → Wrote ss d (replace_suffix d at ys) at r
-  part_refused k e = (ap packed_to_answer e ∙ part_answer (refused (number k)) (ap packed_to_answer e), part_slice)
+  pub part_refused : (k : Refusal) → r ≡ Err k → Wrote ss d (replace_suffix d at ys) at r
+  part_refused k e = (ap to_answer e ∙ part_answer (refused (number k)) (ap to_answer e), part_slice)
 
-  pub part_written : (n : ℕ) → r ≡ Written n → Wrote ss d (replace_suffix d at ys) at (Written (at + n))
-  part_written n e = (part_answer (counted n) (ap packed_to_answer e), part_slice)
+  pub part_written : (n : ℕ) → r ≡ Ok n → Wrote ss d (replace_suffix d at ys) at (Ok (at + n))
+  part_written n e = (part_answer (counted n) (ap to_answer e), part_slice)
 
   -- its bytes lie within the part
-  pub part_within : (n : ℕ) → r ≡ Written n → n ≤ length d - at
-  part_within n e = write_count_within ss (length d - at) n (ap packed_to_answer (sym e) ∙ answered ∙ ap (λ (k : ℕ). (write_segments ss k).answer) part_room)
+  pub part_within : (n : ℕ) → r ≡ Ok n → n ≤ length d - at
+  part_within n e = write_count_within ss (length d - at) n (ap to_answer (sym e) ∙ answered ∙ ap (λ (k : ℕ). (write_segments ss k).answer) part_room)
 
 -- ---- from the start of the slice on
 
@@ -236,6 +235,6 @@ module _ (ss : List Segment) (d : List ℕ) where
       let z : length d - 0 ≡ length d = omega arith in
       ap (λ (n : ℕ). write_at d 0 (write_segments ss n).written) z ∙ write_at_0 d (write_segments ss (length d)).written
 
-  pub wrote_from_0 : (now : List ℕ) (r : Packed) → Wrote ss d now 0 r
-      → (packed_to_answer r ≡ (write_segments ss (length d)).answer) × (now ≡ overwrite d (write_segments ss (length d)).written)
+  pub wrote_from_0 : (now : List ℕ) (r : Result ℕ Refusal) → Wrote ss d now 0 r
+      → (to_answer r ≡ (write_segments ss (length d)).answer) × (now ≡ overwrite d (write_segments ss (length d)).written)
   wrote_from_0 now r w = (w.0 ∙ answer_at_0, w.1 ∙ slice_at_0)

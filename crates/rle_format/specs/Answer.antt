@@ -1,11 +1,7 @@
--- Answers and outcomes of calls, with refusals by number (FORMAT 8), and the conversion of the code's enums to them.
-use Rattle.std.specs.Prelude.{ℕ, ◌+◌, List, [], ◌++◌}
+-- Answers and outcomes of calls, with refusals by number (FORMAT 8), and the conversion of the code's results to them.
+use Rattle.std.specs.Prelude.{ℕ, ◌+◌, List, [], ◌++◌, Result, Ok, Err}
 use Rattle.rle_format.specs.declared.Refusal.{Refusal}
 use Rattle.rle_format.specs.declared.Refusal.TheVariants.{ZeroSize, TooLarge, LossLevel, InvalidUncompressedDataSize, ShortWork, ShortImage, ReadCompressedData, InvalidSegmentHeader, SegmentDoNotFitScanline, ShortPlane, NotEnoughBytes, BufferTooSmall, EmptyStream, MissingPad}
-use Rattle.rle_format.specs.declared.Unpacked.{Unpacked}
-use Rattle.rle_format.specs.declared.Unpacked.TheVariants as unpacked
-use Rattle.rle_format.specs.declared.Packed.{Packed}
-use Rattle.rle_format.specs.declared.Packed.TheVariants as packed
 
 -- a number of bytes, or the number of a refusal (FORMAT 8.4)
 pub data Answer : Type 0 where
@@ -51,12 +47,7 @@ number BufferTooSmall = 12
 number EmptyStream = 13
 number MissingPad = 14
 
--- the answer of unpacking a row or a plane
-abbrev pub to_answer : Unpacked → Answer
-to_answer (unpacked.Read n) = counted n
-to_answer (unpacked.Refused r) = refused (number r)
-
--- the answer of packing segments, a row or a plane
-abbrev pub packed_to_answer : Packed → Answer
-packed_to_answer (packed.Written n) = counted n
-packed_to_answer (packed.Refused r) = refused (number r)
+-- what the code returns, a number of bytes or a refusal, as an answer
+abbrev pub to_answer : Result ℕ Refusal → Answer
+to_answer (Ok n) = counted n
+to_answer (Err r) = refused (number r)

@@ -1,13 +1,9 @@
 -- Examples of planes, worked out by hand: one constant list, what the definitions compute for each, and what is expected.
 -- proofs/Examples.antt has the one proof.
-use Rattle.std.specs.Prelude.{ℕ, zero, suc, List, [], ◌∷◌, ◌++◌, map, length, replicate}
+use Rattle.std.specs.Prelude.{ℕ, zero, suc, List, [], ◌∷◌, ◌++◌, map, length, replicate, Result, Ok, Err}
 use Rattle.rle_format.specs.declared.Refusal.{Refusal}
 use Rattle.rle_format.specs.declared.Refusal.TheVariants.{ZeroSize, TooLarge, LossLevel, InvalidUncompressedDataSize, ShortWork, ShortImage, ReadCompressedData, InvalidSegmentHeader, SegmentDoNotFitScanline, ShortPlane, NotEnoughBytes, BufferTooSmall, EmptyStream, MissingPad}
-use Rattle.rle_format.specs.declared.Unpacked.{Unpacked}
-use Rattle.rle_format.specs.declared.Unpacked.TheVariants as unpacked
-use Rattle.rle_format.specs.declared.Packed.{Packed}
-use Rattle.rle_format.specs.declared.Packed.TheVariants as packed
-use Rattle.rle_format.specs.Answer.{Answer, counted, refused, Outcome, number, to_answer, packed_to_answer}
+use Rattle.rle_format.specs.Answer.{Answer, counted, refused, Outcome, number, to_answer}
 use Rattle.rle_format.specs.Slice.{overwrite, write_at}
 use Rattle.rle_format.specs.Unpack.{unpack_plane}
 use Rattle.rle_format.specs.Pack.{packing, pack_plane}
@@ -28,9 +24,8 @@ pub data Example : Type 0 where
   writes : (before : List ℕ) (at : ℕ) (values after : List ℕ) → Example
   -- refusals, and their numbers
   numbers : List Refusal → List ℕ → Example
-  -- an answer of the code, and the same as a number of bytes or of a refusal
-  unpack_answer : Unpacked → Answer → Example
-  pack_answer : Packed → Answer → Example
+  -- what the code returns, and the same as a number of bytes or of a refusal
+  returns : Result ℕ Refusal → Answer → Example
 
 -- an outcome applied to a slice of `room` bytes, all of them `EE` before the call
 abbrev pub into_filled_slice : (room : ℕ) → Outcome → After
@@ -55,8 +50,7 @@ computed (unpacks w h body slice a) = into_filled_slice (length slice) (unpack_p
 computed (packs w h samples slice a) = into_filled_slice (length slice) (pack_plane w h (length slice) samples) ∷ []
 computed (writes before at vs after) = values (write_at before at vs) ∷ []
 computed (numbers refusals ns) = values (map number refusals) ∷ []
-computed (unpack_answer u a) = only_answer (to_answer u) ∷ []
-computed (pack_answer p a) = only_answer (packed_to_answer p) ∷ []
+computed (returns r a) = only_answer (to_answer r) ∷ []
 
 -- what is expected
 abbrev pub expected : Example → List After
@@ -66,8 +60,7 @@ expected (unpacks w h body slice a) = record { slice = slice; answer = a } ∷ [
 expected (packs w h samples slice a) = record { slice = slice; answer = a } ∷ []
 expected (writes before at vs after) = values after ∷ []
 expected (numbers refusals ns) = values ns ∷ []
-expected (unpack_answer u a) = only_answer a ∷ []
-expected (pack_answer p a) = only_answer a ∷ []
+expected (returns r a) = only_answer a ∷ []
 
 -- those of FORMAT 10, with their numbers. 15 to 17 are of pictures (bitmap_format)
 abbrev pub worked_examples : List Example
@@ -150,10 +143,10 @@ abbrev pub conversion_examples : List Example
 conversion_examples =
     writes (1 ∷ 2 ∷ 3 ∷ 4 ∷ []) 1 (8 ∷ 9 ∷ []) (1 ∷ 8 ∷ 9 ∷ 4 ∷ [])
     ∷ numbers (ZeroSize ∷ TooLarge ∷ LossLevel ∷ InvalidUncompressedDataSize ∷ ShortWork ∷ ShortImage ∷ ReadCompressedData ∷ InvalidSegmentHeader ∷ SegmentDoNotFitScanline ∷ ShortPlane ∷ NotEnoughBytes ∷ BufferTooSmall ∷ EmptyStream ∷ MissingPad ∷ []) (count_from 1 14)
-    ∷ unpack_answer (unpacked.Read 5) (counted 5)
-    ∷ unpack_answer (unpacked.Refused ShortPlane) (refused 10)
-    ∷ pack_answer (packed.Written 6) (counted 6)
-    ∷ pack_answer (packed.Refused BufferTooSmall) (refused 12)
+    ∷ returns (Ok 5) (counted 5)
+    ∷ returns (Err ShortPlane) (refused 10)
+    ∷ returns (Ok 6) (counted 6)
+    ∷ returns (Err BufferTooSmall) (refused 12)
     ∷ []
 
 abbrev pub examples : List Example

@@ -7,4 +7,5 @@ pub mod Segment
 pub mod Unpack
 pub mod Pack
 pub mod Written
+pub mod CheckedSides
 pub mod Examples
