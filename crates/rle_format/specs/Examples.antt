@@ -1,8 +1,11 @@
 -- Examples of planes, worked out by hand: one constant list, what the definitions compute for each, and what is expected.
 -- proofs/Examples.antt has the one proof.
+use native.Mathlib.Omega.{arith}
 use Rattle.std.specs.Prelude.{ℕ, zero, suc, List, [], ◌∷◌, ◌++◌, map, length, replicate, Result, Ok, Err}
 use Rattle.rle_format.specs.declared.Refusal.{Refusal}
 use Rattle.rle_format.specs.declared.Refusal.TheVariants.{ZeroSize, TooLarge, LossLevel, InvalidUncompressedDataSize, ShortWork, ShortImage, ReadCompressedData, InvalidSegmentHeader, SegmentDoNotFitScanline, ShortPlane, NotEnoughBytes, BufferTooSmall, EmptyStream, MissingPad}
+use Rattle.rle_format.specs.declared.valid_sides.ValidSides.{ValidSides}
+use Rattle.rle_format.specs.CheckedSides.{sides_or_number}
 use Rattle.rle_format.specs.Answer.{Answer, counted, refused, Outcome, number, to_answer}
 use Rattle.rle_format.specs.Slice.{overwrite, write_at}
 use Rattle.rle_format.specs.Unpack.{unpack_plane}
@@ -26,6 +29,8 @@ pub data Example : Type 0 where
   numbers : List Refusal → List ℕ → Example
   -- what the code returns, and the same as a number of bytes or of a refusal
   returns : Result ℕ Refusal → Answer → Example
+  -- what checking sides returns, and the same as the two sides, or as the number of a refusal
+  checks : Result ValidSides Refusal → Result (ℕ × ℕ) ℕ → Example
 
 -- an outcome applied to a slice of `room` bytes, all of them `EE` before the call
 abbrev pub into_filled_slice : (room : ℕ) → Outcome → After
@@ -39,6 +44,15 @@ values ns = record { slice = ns; answer = counted (length ns) }
 abbrev pub only_answer : Answer → After
 only_answer a = record { slice = []; answer = a }
 
+-- sides, or the number of their refusal
+abbrev pub only_sides : Result (ℕ × ℕ) ℕ → After
+only_sides (Ok s) = values (s.0 ∷ s.1 ∷ [])
+only_sides (Err n) = only_answer (refused n)
+
+-- sides that pass the checks
+abbrev pub sides_3_2 : ValidSides
+sides_3_2 = record { width = 3; height = 2; allowed = record { some_width = λ e. omega (arith, e); some_height = λ e. omega (arith, e); wide = omega arith; high = omega arith } }
+
 -- what the definitions compute; a destination has the length that it has afterwards
 abbrev pub computed : Example → List After
 computed (packs_and_unpacks w h samples bytes) =
@@ -51,6 +65,7 @@ computed (packs w h samples slice a) = into_filled_slice (length slice) (pack_pl
 computed (writes before at vs after) = values (write_at before at vs) ∷ []
 computed (numbers refusals ns) = values (map number refusals) ∷ []
 computed (returns r a) = only_answer (to_answer r) ∷ []
+computed (checks r a) = only_sides (sides_or_number r) ∷ []
 
 -- what is expected
 abbrev pub expected : Example → List After
@@ -61,6 +76,7 @@ expected (packs w h samples slice a) = record { slice = slice; answer = a } ∷ 
 expected (writes before at vs after) = values after ∷ []
 expected (numbers refusals ns) = values ns ∷ []
 expected (returns r a) = only_answer a ∷ []
+expected (checks r a) = only_sides a ∷ []
 
 -- those of FORMAT 10, with their numbers. 15 to 17 are of pictures (bitmap_format)
 abbrev pub worked_examples : List Example
@@ -147,6 +163,8 @@ conversion_examples =
     ∷ returns (Err ShortPlane) (refused 10)
     ∷ returns (Ok 6) (counted 6)
     ∷ returns (Err BufferTooSmall) (refused 12)
+    ∷ checks (Ok sides_3_2) (Ok (3, 2))
+    ∷ checks (Err TooLarge) (Err 2)
     ∷ []
 
 abbrev pub examples : List Example
