@@ -1,4 +1,4 @@
 mod Examples
 pub mod Layouts
-mod Samples
+pub mod ChannelSamples
 mod PixelWords

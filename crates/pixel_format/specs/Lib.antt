@@ -3,3 +3,4 @@ pub mod Layouts
 pub mod Examples
 pub mod PixelWords
 pub mod Offsets
+pub mod Samples

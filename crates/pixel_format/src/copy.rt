@@ -1,5 +1,5 @@
 // Reading a channel out of pixels.
-ghost use Rattle.std.specs.Prelude.{◌≡◌, ◌+◌, ◌≤◌, ◌<◌, ◌/◌, min, length, take, drop};
+ghost use Rattle.std.specs.Prelude.{◌≡◌, ◌+◌, ◌≤◌, ◌<◌, ◌/◌, length, take, drop};
 ghost use Rattle.rle_format.specs.Slice.{overwrite, write_at};
 ghost use Rattle.pixel_format.specs.Channel.{channel_offsets, offset_of, strided};
 ghost use Rattle.pixel_format.specs.Offsets.{to_channel_offsets};
@@ -60,12 +60,6 @@ pub(crate) fn offset_of(layout: PixelLayout, channel: Channel) -> usize
         Channel::B => offsets.b,
         Channel::A => offsets.a,
     }
-}
-
-pub(crate) fn lesser(a: usize, b: usize) -> usize
-    ensures { result ≡ min a b }
-{
-    if a < b { a } else { b }
 }
 
 // Copies the bytes at `offset` of four pixels, from pixel `from` on, to dst from index `at` on. Four plain moves are faster than a loop over

@@ -2,14 +2,10 @@
 #![tactic(auto)]
 
 mod copy;
+mod samples;
 mod words;
 
-ghost use Rattle.std.specs.Prelude.{◌≡◌, length, take, drop};
-ghost use Rattle.rle_format.specs.Slice.{overwrite};
-ghost use Rattle.pixel_format.specs.declared.Channel.{Channel};
-ghost use Rattle.pixel_format.specs.Channel.{samples_of};
-
-use copy::{copy_channel, lesser, offset_of};
+pub use samples::Samples;
 
 // Pixels of B, G, R, A: the bytes of a pixel, and the offset of each channel. This name and the next three are IronRDP's.
 #[derive(Clone, Copy)]
@@ -104,31 +100,4 @@ pub enum Channel {
 pub enum Layout {
     Planar,
     Pixels(PixelLayout),
-}
-
-// The number of samples of each channel in a slice; of pixels, those that are complete.
-pub fn sample_count(src: &[u8], layout: Layout) -> usize
-    ensures { (c : Channel) → result ≡ length (samples_of layout c src.now) }
-{
-    match layout {
-        Layout::Planar => src.len(),
-        Layout::Pixels(_) => src.len() / BgrAChannels::STRIDE,
-    }
-}
-
-// Copies the samples of a channel, from sample `from` on, into dst, until dst is full or there are no more.
-pub fn read_samples(src: &[u8], layout: Layout, channel: Channel, from: usize, dst: &mut [u8])
-    ensures { dst.new ≡ overwrite dst.old (take (length dst.old) (drop from (samples_of layout channel src.now))) }
-{
-    let count = sample_count(src, layout);
-    if count <= from {
-        return;
-    }
-    let n = lesser(count - from, dst.len());
-    match layout {
-        Layout::Planar => {
-            dst[..n].copy_from_slice(&src[from..from + n]);
-        }
-        Layout::Pixels(pixels) => copy_channel(src, offset_of(pixels, channel), from, n, dst),
-    }
 }

@@ -3,7 +3,7 @@ use Rattle.std.proofs.Common.{◌≡◌, ℕ, ◌+◌, ◌-◌, ◌/◌, length,
 use Rattle.rle_format.specs.Slice.{write_at}
 use Rattle.rle_format.proofs.Slice.{write_at_nil}
 use Rattle.pixel_format.specs.Channel.{strided}
-use Rattle.pixel_format.proofs.Samples.{length_strided}
+use Rattle.pixel_format.proofs.ChannelSamples.{length_strided}
 use Rattle.pixel_format.proofs.PixelWords.{put_part}
 use Rattle.pixel_format.proofs.copy.copy_by_fours.Goals as goal
 

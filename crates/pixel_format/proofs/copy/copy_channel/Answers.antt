@@ -3,7 +3,7 @@ use Rattle.std.proofs.Common.{◌≡◌, ℕ, ◌+◌, ◌-◌, ◌/◌, length,
 use Rattle.rle_format.specs.Slice.{overwrite}
 use Rattle.rle_format.proofs.Slice.{overwrite_nil, overwrite_part}
 use Rattle.pixel_format.specs.Channel.{strided}
-use Rattle.pixel_format.proofs.Samples.{length_strided}
+use Rattle.pixel_format.proofs.ChannelSamples.{length_strided}
 use Rattle.pixel_format.proofs.copy.copy_channel.Goals as goal
 
 pub loop-i-init : goal.loop-i-init

@@ -2,7 +2,7 @@
 use Rattle.std.proofs.Common.{◌+◌, ◌*◌, ◌/◌, length, refl, arith}
 use Rattle.rle_format.proofs.Slice.{write_four}
 use Rattle.pixel_format.specs.Channel.{strided}
-use Rattle.pixel_format.proofs.Samples.{length_strided, strided_at}
+use Rattle.pixel_format.proofs.ChannelSamples.{length_strided, strided_at}
 use Rattle.pixel_format.proofs.copy.copy_four.Goals as goal
 
 pub returns : goal.returns

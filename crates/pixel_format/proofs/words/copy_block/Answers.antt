@@ -2,7 +2,7 @@
 use Rattle.std.proofs.Common.{◌+◌, ◌*◌, ◌/◌, length, refl, sym, ◌∙◌, arith}
 use Rattle.rle_format.proofs.Slice.{write_at_nil, copy_step}
 use Rattle.pixel_format.specs.Channel.{strided}
-use Rattle.pixel_format.proofs.Samples.{length_strided, strided_at}
+use Rattle.pixel_format.proofs.ChannelSamples.{length_strided, strided_at}
 use Rattle.pixel_format.proofs.words.copy_block.Goals as goal
 
 pub loop-i-init : goal.loop-i-init

@@ -95,3 +95,8 @@ module _ (l : Layout) (c : Channel) (s : List ℕ) where
         ∙ (λ i. overwrite d (take n (drop from (strided (four i) (at i) (length s / four i) s))))
         ∙ ap (λ (t : List ℕ). overwrite d (take n (drop from t))) (samples_of_pixels p e)
         ∙ ap (overwrite d) (read_limited (samples_of l c s) from n (length d) all)
+
+-- each channel of a slice has as many
+pub as_many : (l : Layout) (c other : Channel) (s : List ℕ) → length (samples_of l c s) ≡ length (samples_of l other s)
+as_many Planar c other s = refl
+as_many (Pixels p) c other s = length_channel (channel_offsets p) c s ∙ sym (length_channel (channel_offsets p) other s)
