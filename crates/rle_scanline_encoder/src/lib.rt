@@ -5,21 +5,21 @@ mod row;
 pub mod segment;
 
 ghost use Rattle.std.specs.Prelude.{◌≡◌, length};
-ghost use Rattle.rle_format.specs.Answer.{packed_to_answer};
+ghost use Rattle.rle_format.specs.Answer.{to_answer};
 ghost use Rattle.rle_format.specs.Slice.{overwrite};
 ghost use Rattle.rle_format.specs.Pack.{row_segments, write_segments};
 
-use rle_format::Packed;
+use rle_format::Refusal;
 use row::encode_row;
 
 // Packs a row into the first bytes of dst, and returns the number of bytes written; or refusal 12, after the segments that fit were written.
 // An empty row has no segments.
-pub fn encode_scanline(codes: &[u8], dst: &mut [u8]) -> Packed
-    ensures answer { packed_to_answer result ≡ (write_segments (row_segments codes.now) (length dst.old)).answer }
+pub fn encode_scanline(codes: &[u8], dst: &mut [u8]) -> Result<usize, Refusal>
+    ensures answer { to_answer result ≡ (write_segments (row_segments codes.now) (length dst.old)).answer }
     ensures slice { dst.new ≡ overwrite dst.old (write_segments (row_segments codes.now) (length dst.old)).written }
 {
-    if codes.len() == 0 {
-        return Packed::Written(0);
+    if codes.is_empty() {
+        return Ok(0);
     }
     encode_row(codes, dst)
 }

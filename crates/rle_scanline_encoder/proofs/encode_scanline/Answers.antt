@@ -1,5 +1,6 @@
 -- `encode_scanline`: a row without values has no segments; any other is `encode_row`'s, from the start of the slice on.
 use Rattle.std.proofs.Common.{◌≡◌, ℕ, List, [], ◌∷◌, length, refl, sym, arith}
+use borrow.Author.Tests.{eqb-true}
 use Rattle.rle_format.specs.Answer.{counted, stop}
 use Rattle.rle_format.specs.Slice.{overwrite}
 use Rattle.rle_format.specs.Pack.{row_segments, write_segments}
@@ -13,9 +14,9 @@ unfolding row_segments write_segments stop
 no_values [] d e = (refl, sym (overwrite_nil d))
 no_values (x ∷ xs) d e = absurd (omega arith)
 
-pub returns-then-codes-eq0 : goal.returns-then-codes-eq0
-returns-then-codes-eq0 c =
-    let w = no_values c.args.codes.now c.args.dst.now c.if-codes-eq0.true in
+pub returns-then-is_empty : goal.returns-then-is_empty
+returns-then-is_empty c =
+    let w = no_values c.args.codes.now c.args.dst.now (eqb-true (length c.args.codes.now) 0 (sym c.if-is_empty.ensures)) in
     record { answer = w.0; slice = w.1 }
 
 pub returns : goal.returns

@@ -1,5 +1,6 @@
 -- `encode_row`: each turn is a step of the scan.
-use Rattle.std.proofs.Common.{◌+◌, ◌-◌, take, drop, arith}
+use Rattle.std.proofs.Common.{Ok, Err, ◌+◌, ◌-◌, take, drop, refl, arith}
+use Rattle.std.proofs.lemmas.Result.{err_from_is_err_and}
 use Rattle.rle_format.specs.Pack.{split_segments, row_segments}
 use Rattle.rle_scanline_encoder.specs.RowEnd.{row_end_segments}
 use Rattle.rle_format.proofs.WriteLoop.{write_start, write_same_rest, write_next, write_stop, write_last}
@@ -30,25 +31,28 @@ loop-i-preserved-then-i-last-lt3 c =
           (scan_join codes l.start l.last l.i l.invariant.0 (omega arith) c.if-codes-i.false (omega arith)),
     )
 
-pub returns-in_default : goal.returns-in_default
-returns-in_default c =
+pub returns-in_err-to : goal.returns-in_err-to
+returns-in_err-to c =
     let l = c.loop-i in
     let codes = c.args.codes.now in
-    let call = c.encode_segment-answer in
+    let call = c.encode_segment in
+    let why = c.in_err-to in
     let w = write_stop l.invariant.1 (split_segments (take (l.last + 1 - l.start) (drop l.start codes)) (l.i - l.last - 1)) (scan codes l.i l.i (l.i + 1))
-    call.new.dst call.result c.in_default.field-0
-    (scan_close codes l.start l.last l.i l.invariant.0 (omega arith) c.if-codes-i.false (omega arith)) (call.ensures.answer, call.ensures.slice) c.in_default.is in
-    record { answer = w.0; slice = w.1 }
+    call.new.dst (Err why.field-0.0) why.field-0.0
+    (scan_close codes l.start l.last l.i l.invariant.0 (omega arith) c.if-codes-i.false (omega arith)) (why.ensures.answer, why.ensures.slice) refl in
+    let p = err_from_is_err_and c.from_residual.result c.from_residual.ensures.1 in
+    record { answer = rw (p.1, p.2) w.0; slice = w.1 }
 
 pub loop-i-preserved : goal.loop-i-preserved
 loop-i-preserved c =
     let l = c.loop-i in
     let codes = c.args.codes.now in
-    let call = c.encode_segment-answer in (
+    let call = c.encode_segment in
+    let next = c.in_ok-to in (
       scanned_new codes l.i l.i (omega arith) (omega arith),
       write_next l.invariant.1 (split_segments (take (l.last + 1 - l.start) (drop l.start codes)) (l.i - l.last - 1)) (scan codes l.i l.i (l.i + 1))
-          call.new.dst call.result c.in-Written.next
-          (scan_close codes l.start l.last l.i l.invariant.0 (omega arith) c.if-codes-i.false (omega arith)) (call.ensures.answer, call.ensures.slice) c.in-Written.is,
+          call.new.dst (Ok next.to) next.to
+          (scan_close codes l.start l.last l.i l.invariant.0 (omega arith) c.if-codes-i.false (omega arith)) (next.ensures.answer, next.ensures.slice) refl,
     )
 
 pub returns : goal.returns
