@@ -6,10 +6,9 @@ use Rattle.pixel_format.specs.declared.Layout.TheVariants.{Planar, Pixels}
 use Rattle.pixel_format.specs.declared.PixelLayout.{PixelLayout}
 use Rattle.pixel_format.specs.Channel.{samples_of}
 use Rattle.rle_format.specs.Delta.{delta_code, zip_with}
-use Rattle.rle_format.specs.Slice.{overwrite}
 use Rattle.rle_format.specs.Pack.{row_at, codes_at}
 use Rattle.rle_format.proofs.Delta.{length_zip_with, get_or_zip_with}
-use Rattle.rle_format.proofs.Slice.{suffix, suffix_drop, copied_overwrite}
+use Rattle.rle_format.proofs.Slice.{suffix, suffix_drop}
 
 -- the coded values of the second row of a list, w wide, below the first
 abbrev pub below_codes : (rows : List ℕ) (w : ℕ) → List ℕ
@@ -44,17 +43,12 @@ module _ (rows : List ℕ) (w : ℕ) (h : w + w ≤ length rows) where
 
 module _ (width : ℕ) (samples : List ℕ) where
   -- the first row, copied to an array
-  pub plane_first : (r : ℕ) (d now part : List ℕ) → r ≡ 0 → width ≤ length samples → part ≡ take width samples → now ≡ take (length part) part ++ drop (length part) d
-      → take width now ≡ codes_at width samples r
-  unfolding codes_at row_at overwrite
-  plane_first zero d now part e h is put =
-      let n : length part ≡ width = ap length is ∙ length-take-le width samples h in
+  pub plane_first : (r : ℕ) (part rest : List ℕ) → r ≡ 0 → width ≤ length samples → part ≡ take width samples → take width (part ++ rest) ≡ codes_at width samples r
+  unfolding codes_at row_at
+  plane_first zero part rest e h is =
       let z : 0 * width ≡ 0 = omega arith in
-      ap (take width) (copied_overwrite d part now put)
-      ∙ take_at part (drop (length part) d) width n
-      ∙ is
-      ∙ ap (λ (k : ℕ). take width (drop k samples)) (sym z)
-  plane_first (suc r) d now part e h is put = absurd (omega arith)
+      take_at part rest width (ap length is ∙ length-take-le width samples h) ∙ is ∙ ap (λ (k : ℕ). take width (drop k samples)) (sym z)
+  plane_first (suc r) part rest e h is = absurd (omega arith)
 
   -- a later row, from a slice that begins with the row above
   pub plane_later : (r : ℕ) → (r ≡ 0 → ⊥) → below_codes (suffix samples ((r - 1) * width)) width ≡ codes_at width samples r

@@ -9,3 +9,4 @@ mod Cut
 mod Flagged
 mod PutRow
 mod Copied
+mod Checked

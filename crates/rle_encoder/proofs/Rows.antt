@@ -1,6 +1,6 @@
 -- The rows of a plane, as the packer's outer loop goes through them.
-use Rattle.std.proofs.Common.{◌≡◌, ℕ, zero, suc, ◌+◌, ◌-◌, ◌*◌, ◌<◌, ◌≤◌, List, [], ◌++◌, length, take, drop, sym, refl, ap, ◌∙◌, append_assoc, append-nil, mul-le-mul_right, mul_comm, arith, length-drop, length-take-le, take_at}
-use Rattle.rle_format.specs.declared.Packed.{Packed}
+use Rattle.std.proofs.Common.{Result, ◌≡◌, ℕ, zero, suc, ◌+◌, ◌-◌, ◌*◌, ◌<◌, ◌≤◌, List, [], ◌++◌, length, take, drop, sym, refl, ap, ◌∙◌, append_assoc, append-nil, mul-le-mul_right, mul_comm, arith, length-drop, length-take-le, take_at}
+use Rattle.rle_format.specs.declared.Refusal.{Refusal}
 use Rattle.rle_format.specs.Slice.{overwrite}
 use Rattle.rle_format.specs.Delta.{delta_code, zip_with}
 use Rattle.rle_format.specs.Segment.{Segment}
@@ -48,27 +48,6 @@ module _ (width : ℕ) (samples : List ℕ) where
   segments_from_row_end r zero e = refl
   segments_from_row_end r (suc k) e = absurd (omega arith)
 
--- ---- the first bytes of a local array, passed as `&mut d[0..n]`
-
-abbrev array_prefix : (d : List ℕ) (n : ℕ) → List ℕ
-array_prefix d n = take (n - 0) (drop 0 d)
-
--- and the array after the call, which left ys in them
-abbrev replace_prefix : (d : List ℕ) (n : ℕ) (ys : List ℕ) → List ℕ
-replace_prefix d n ys = take 0 d ++ (ys ++ drop (n - 0) (drop 0 d))
-
-array_prefix-take : (d : List ℕ) (n : ℕ) → array_prefix d n ≡ take n d
-array_prefix-take d n = let z : n - 0 ≡ n = omega arith in ap (λ (k : ℕ). take k d) z
-
-length-array_prefix : (d : List ℕ) (n : ℕ) → n ≤ length d → length (array_prefix d n) ≡ n
-length-array_prefix d n h = ap length (array_prefix-take d n) ∙ length-take-le n d h
-
-take-replace_prefix : (d : List ℕ) (n : ℕ) (ys : List ℕ) → length ys ≡ n → take n (replace_prefix d n ys) ≡ ys
-take-replace_prefix d n ys e = take_at ys (drop (n - 0) d) n e
-
-array_prefix-replace_prefix : (d : List ℕ) (n : ℕ) (ys : List ℕ) → length ys ≡ n → array_prefix (replace_prefix d n ys) n ≡ ys
-array_prefix-replace_prefix d n ys e = array_prefix-take (replace_prefix d n ys) n ∙ take-replace_prefix d n ys e
-
 -- ---- a row, read and coded
 
 pub row_within : (r width height : ℕ) → r < height → r * width + width ≤ width * height
@@ -110,25 +89,24 @@ code_row-codes_at width samples (suc r) above h =
 -- two arrays after row r was read and coded: `got` was read into the first, which then became `new`, and the second became `sampled`
 pub row_coded : (width : ℕ) (samples : List ℕ) (r : ℕ) (above codes got new sampled : List ℕ) → width ≤ length above → width ≤ length codes
     → r * width + width ≤ length samples → HasRowAbove width samples r above
-    → got ≡ overwrite (array_prefix codes width) (take (length (array_prefix codes width)) (drop (r * width) samples))
-    → new ≡ code_row_of r (array_prefix above width) (array_prefix (replace_prefix codes width got) width) → sampled ≡ array_prefix (replace_prefix codes width got) width
-    → (take width (replace_prefix (replace_prefix codes width got) width new) ≡ codes_at width samples r) × HasRowAbove width samples (r + 1) (replace_prefix above width sampled)
+    → got ≡ overwrite (take width codes) (take (length (take width codes)) (drop (r * width) samples))
+    → new ≡ code_row_of r (take width above) (take width (got ++ drop width codes)) → sampled ≡ take width (got ++ drop width codes)
+    → (take width (new ++ drop width (got ++ drop width codes)) ≡ codes_at width samples r) × HasRowAbove width samples (r + 1) (sampled ++ drop width above)
 row_coded width samples r above codes got new sampled na nc h has eg en es =
     let long = length_row_at width samples r h in
-    let read : got ≡ row_at width samples r = read_row_lem width samples r (array_prefix codes width) got (length-array_prefix codes width nc) h eg in
-    let lg : length got ≡ width = ap length read ∙ long in
-    let lent : array_prefix (replace_prefix codes width got) width ≡ row_at width samples r = array_prefix-replace_prefix codes width got lg ∙ read in
+    let read : got ≡ row_at width samples r = read_row_lem width samples r (take width codes) got (length-take-le width codes nc) h eg in
+    let lent : take width (got ++ drop width codes) ≡ row_at width samples r = take_at got (drop width codes) width (ap length read ∙ long) ∙ read in
     let up : length (take width above) ≡ length (row_at width samples r) = length-take-le width above na ∙ sym long in
-    let is : new ≡ code_row_of r (take width above) (row_at width samples r) = en ∙ (λ i. code_row_of r (array_prefix-take above width i) (lent i)) in
+    let is : new ≡ code_row_of r (take width above) (row_at width samples r) = en ∙ ap (code_row_of r (take width above)) lent in
     let ln : length new ≡ width = ap length is ∙ length-code_row r (take width above) (row_at width samples r) up ∙ long in
     let ls : length sampled ≡ width = ap length (es ∙ lent) ∙ long in
     let last : r ≡ r + 1 - 1 = omega arith in (
-      take-replace_prefix (replace_prefix codes width got) width new ln ∙ is ∙ code_row-codes_at width samples r above has,
-      λ _. take-replace_prefix above width sampled ls ∙ es ∙ lent ∙ ap (row_at width samples) last,
+      take_at new (drop width (got ++ drop width codes)) width ln ∙ is ∙ code_row-codes_at width samples r above has,
+      λ _. take_at sampled (drop width above) width ls ∙ es ∙ lent ∙ ap (row_at width samples) last,
     )
 
 -- the row that is packed is the row of the plane
-pub row_written : (width : ℕ) (samples : List ℕ) (r : ℕ) (codes : List ℕ) → take width codes ≡ codes_at width samples r → (d now : List ℕ) (to : ℕ) (answer : Packed)
+pub row_written : (width : ℕ) (samples : List ℕ) (r : ℕ) (codes : List ℕ) → take width codes ≡ codes_at width samples r → (d now : List ℕ) (to : ℕ) (answer : Result ℕ Refusal)
     → Wrote (row_segments (take width codes)) d now to answer → Wrote (row_segments (codes_at width samples r)) d now to answer
 row_written width samples r codes row d now to answer w =
     (w.0 ∙ ap (λ (l : List ℕ). answer_at (row_segments l) d to) row, w.1 ∙ ap (λ (l : List ℕ). slice_at (row_segments l) d to) row)

@@ -3,10 +3,10 @@
 ghost use Rattle.std.specs.Prelude.{◌≡◌, ◌+◌, ◌*◌, ◌≤◌, length, take, drop};
 ghost use Rattle.rle_format.specs.Delta.{delta_code, zip_with};
 ghost use Rattle.rle_format.specs.Pack.{codes_at};
-ghost use Rattle.pixel_format.specs.Channel.{samples_of};
+ghost use Rattle.pixel_format.specs.Samples.{samples_in};
 ghost use Rattle.rle_encoder.specs.CodeRow.{code_row_of, HasRowAbove, KeepsRowAbove};
 
-use pixel_format::{Channel, Layout, read_samples};
+use pixel_format::{Layout, Samples};
 
 // The code of the sample `next` below the sample `prev`: a small difference, up or down, has a small code. For a fall it is 2 × (255 − d) + 1,
 // which is 255 − 2 × d modulo 256: this form needs fewer vector instructions.
@@ -65,7 +65,7 @@ fn code_plane_row(samples: &[u8], r: usize, width: usize, codes: &mut [u8])
     ensures { take width codes.new ≡ codes_at width samples.now r }
 {
     if r == 0 {
-        codes[0..width].copy_from_slice(&samples[0..width]);
+        codes[..width].copy_from_slice(&samples[..width]);
         return;
     }
     let above = (r - 1) * width;
@@ -73,39 +73,23 @@ fn code_plane_row(samples: &[u8], r: usize, width: usize, codes: &mut [u8])
 }
 
 // The coded values of row r of a channel in pixels. On entry `above` has the samples of the row above, on return those of row r.
-fn code_pixel_row(
-    src: &[u8],
-    layout: Layout,
-    channel: Channel,
-    r: usize,
-    width: usize,
-    above: &mut [u8],
-    codes: &mut [u8],
-)
-    requires { (r ≤ 8192) × (width ≤ 8192) × (r * width + width ≤ length (samples_of layout channel src.now)) × (width ≤ length above.old) × (width ≤ length codes.old) × HasRowAbove width (samples_of layout channel src.now) r above.old }
-    ensures codes { take width codes.new ≡ codes_at width (samples_of layout channel src.now) r }
-    ensures above { HasRowAbove width (samples_of layout channel src.now) (r + 1) above.new }
+fn code_pixel_row(samples: Samples, r: usize, width: usize, above: &mut [u8], codes: &mut [u8])
+    requires { (r ≤ 8192) × (width ≤ 8192) × (r * width + width ≤ length (samples_in samples)) × (width ≤ length above.old) × (width ≤ length codes.old) × HasRowAbove width (samples_in samples) r above.old }
+    ensures codes { take width codes.new ≡ codes_at width (samples_in samples.entry) r }
+    ensures above { HasRowAbove width (samples_in samples.entry) (r + 1) above.new }
 {
-    read_samples(src, layout, channel, r * width, &mut codes[0..width]);
-    code_scanline(r, &mut above[0..width], &mut codes[0..width]);
+    samples.read(r * width, &mut codes[..width]);
+    code_scanline(r, &mut above[..width], &mut codes[..width]);
 }
 
 // The coded values of row r of a channel, in either layout.
-pub(crate) fn code_row(
-    src: &[u8],
-    layout: Layout,
-    channel: Channel,
-    r: usize,
-    width: usize,
-    above: &mut [u8],
-    codes: &mut [u8],
-)
-    requires { (r ≤ 8192) × (width ≤ 8192) × (r * width + width ≤ length (samples_of layout channel src.now)) × (width ≤ length above.old) × (width ≤ length codes.old) × KeepsRowAbove layout width (samples_of layout channel src.now) r above.old }
-    ensures codes { take width codes.new ≡ codes_at width (samples_of layout channel src.now) r }
-    ensures above { KeepsRowAbove layout width (samples_of layout channel src.now) (r + 1) above.new }
+pub(crate) fn code_row(samples: Samples, r: usize, width: usize, above: &mut [u8], codes: &mut [u8])
+    requires { (r ≤ 8192) × (width ≤ 8192) × (r * width + width ≤ length (samples_in samples)) × (width ≤ length above.old) × (width ≤ length codes.old) × KeepsRowAbove samples.layout width (samples_in samples) r above.old }
+    ensures codes { take width codes.new ≡ codes_at width (samples_in samples.entry) r }
+    ensures above { KeepsRowAbove samples.entry.layout width (samples_in samples.entry) (r + 1) above.new }
 {
-    match layout {
-        Layout::Planar => code_plane_row(src, r, width, codes),
-        Layout::Pixels(_) => code_pixel_row(src, layout, channel, r, width, above, codes),
+    match samples.layout {
+        Layout::Planar => code_plane_row(samples.src, r, width, codes),
+        Layout::Pixels(_) => code_pixel_row(samples, r, width, above, codes),
     }
 }

@@ -6,162 +6,103 @@ mod row;
 mod runs;
 mod segment;
 
-ghost use Rattle.std.specs.Prelude.{◌≡◌, ◌+◌, ◌*◌, ◌/◌, ◌≤◌, length};
-ghost use Rattle.rle_format.specs.Answer.{packed_to_answer};
+ghost use Rattle.std.specs.Prelude.{◌≡◌, ◌+◌, ◌*◌, ◌/◌, ◌^◌, ◌<◌, ◌≤◌, length};
+ghost use Rattle.rle_format.specs.Answer.{to_answer};
 ghost use Rattle.rle_format.specs.Slice.{overwrite};
 ghost use Rattle.rle_format.specs.Pack.{plane_segments, write_segments, pack_plane};
-ghost use Rattle.pixel_format.specs.Channel.{samples_of};
+ghost use Rattle.pixel_format.specs.Samples.{samples_in};
 
 use delta::code_row;
-use pixel_format::{Channel, Layout, sample_count};
-use rle_format::{MAX_SIDE, Packed, Refusal};
+use pixel_format::{Channel, Layout, Samples};
+use rle_format::{MAX_SIDE, Refusal, ValidSides};
 use row::encode_next_row;
 
 // The width up to which a plane is packed with small arrays: to fill the large ones with zeros takes longer than to pack a small plane.
 const NARROW: usize = 256;
 
+// The lengths of arrays for a row of such a plane, and of any: of its coded values, and of its segments and flags.
+const NARROW_CODES: usize = NARROW + 16;
+
+const NARROW_PACKED: usize = NARROW + 64;
+
+const WIDE_CODES: usize = MAX_SIDE + 16;
+
+const WIDE_PACKED: usize = MAX_SIDE + 576;
+
 // Packs the rows of a channel, the first row first. The last three slices are lent to work in. They have the samples of the row above, if the
 // channel is in pixels; the coded values of a row, and 15 bytes that a copy of 16 may read; and the row's segments and flags.
 fn encode_rows(
-    src: &[u8],
-    layout: Layout,
-    channel: Channel,
-    width: usize,
-    height: usize,
+    samples: Samples,
+    sides: ValidSides,
     dst: &mut [u8],
     above: &mut [u8],
     codes: &mut [u8],
     packed: &mut [u8],
-) -> Packed
-    requires { (width ≤ 8192) × (height ≤ 8192) × (width * height ≤ length (samples_of layout channel src.now)) × (width ≤ length above.old) × (width + 15 ≤ length codes.old) × (width + width / 15 + 24 ≤ length packed.old) }
-    ensures answer { packed_to_answer result ≡ (write_segments (plane_segments width height (samples_of layout channel src.now)) (length dst.old)).answer }
-    ensures slice { dst.new ≡ overwrite dst.old (write_segments (plane_segments width height (samples_of layout channel src.now)) (length dst.old)).written }
+) -> Result<usize, Refusal>
+    requires { (sides.width * sides.height ≤ length (samples_in samples)) × (sides.width ≤ length above.old) × (sides.width + 15 ≤ length codes.old) × (sides.width + sides.width / 15 + 24 ≤ length packed.old) }
+    ensures answer { to_answer result ≡ (write_segments (plane_segments sides.width sides.height (samples_in samples.entry)) (length dst.old)).answer }
+    ensures slice { dst.new ≡ overwrite dst.old (write_segments (plane_segments sides.width sides.height (samples_in samples.entry)) (length dst.old)).written }
 {
+    let width = sides.width;
     let mut to = 0;
-    let mut r = 0;
-    while r < height {
-        code_row(src, layout, channel, r, width, above, codes);
-        let answer = encode_next_row(codes, width, packed, dst, to);
-        let Packed::Written(next) = answer else {
-            return answer;
-        };
-        to = next;
-        r += 1;
+    for r in 0..sides.height {
+        code_row(samples, r, width, above, codes);
+        to = encode_next_row(codes, width, packed, dst, to)?;
     }
-    Packed::Written(to)
+    Ok(to)
 }
 
-// Packs a plane of any width, with arrays for the widest.
-fn encode_wide(
-    src: &[u8],
-    layout: Layout,
-    channel: Channel,
+// Packs a plane by way of arrays of these lengths.
+fn encode<const ABOVE: usize, const CODES: usize, const PACKED: usize>(
+    samples: Samples,
+    sides: ValidSides,
     dst: &mut [u8],
-    width: usize,
-    height: usize,
-) -> Packed
-    requires { (width ≤ 8192) × (height ≤ 8192) × (width * height ≤ length (samples_of layout channel src.now)) }
-    ensures answer { packed_to_answer result ≡ (write_segments (plane_segments width height (samples_of layout channel src.now)) (length dst.old)).answer }
-    ensures slice { dst.new ≡ overwrite dst.old (write_segments (plane_segments width height (samples_of layout channel src.now)) (length dst.old)).written }
+) -> Result<usize, Refusal>
+    requires { (sides.width * sides.height ≤ length (samples_in samples)) × (sides.width ≤ ABOVE) × (sides.width + 15 ≤ CODES) × (sides.width + sides.width / 15 + 24 ≤ PACKED) × (ABOVE + CODES + PACKED < 2 ^ 63) }
+    ensures answer { to_answer result ≡ (write_segments (plane_segments sides.width sides.height (samples_in samples.entry)) (length dst.old)).answer }
+    ensures slice { dst.new ≡ overwrite dst.old (write_segments (plane_segments sides.width sides.height (samples_in samples.entry)) (length dst.old)).written }
 {
-    let mut above = [0u8; MAX_SIDE];
-    let mut codes = [0u8; MAX_SIDE + 16];
-    let mut packed = [0u8; MAX_SIDE + 576];
-    encode_rows(
-        src,
-        layout,
-        channel,
-        width,
-        height,
-        dst,
-        &mut above,
-        &mut codes,
-        &mut packed,
-    )
-}
-
-// The same for a narrow plane, with arrays of its size.
-fn encode_narrow(
-    src: &[u8],
-    layout: Layout,
-    channel: Channel,
-    dst: &mut [u8],
-    width: usize,
-    height: usize,
-) -> Packed
-    requires { (width ≤ 256) × (height ≤ 8192) × (width * height ≤ length (samples_of layout channel src.now)) }
-    ensures answer { packed_to_answer result ≡ (write_segments (plane_segments width height (samples_of layout channel src.now)) (length dst.old)).answer }
-    ensures slice { dst.new ≡ overwrite dst.old (write_segments (plane_segments width height (samples_of layout channel src.now)) (length dst.old)).written }
-{
-    let mut above = [0u8; NARROW];
-    let mut codes = [0u8; NARROW + 16];
-    let mut packed = [0u8; NARROW + 64];
-    encode_rows(
-        src,
-        layout,
-        channel,
-        width,
-        height,
-        dst,
-        &mut above,
-        &mut codes,
-        &mut packed,
-    )
-}
-
-fn encode(
-    src: &[u8],
-    layout: Layout,
-    channel: Channel,
-    dst: &mut [u8],
-    width: usize,
-    height: usize,
-) -> Packed
-    requires { (width ≤ 8192) × (height ≤ 8192) × (width * height ≤ length (samples_of layout channel src.now)) }
-    ensures answer { packed_to_answer result ≡ (write_segments (plane_segments width height (samples_of layout channel src.now)) (length dst.old)).answer }
-    ensures slice { dst.new ≡ overwrite dst.old (write_segments (plane_segments width height (samples_of layout channel src.now)) (length dst.old)).written }
-{
-    if width <= NARROW {
-        return encode_narrow(src, layout, channel, dst, width, height);
-    }
-    encode_wide(src, layout, channel, dst, width, height)
+    let mut above = [0u8; ABOVE];
+    let mut codes = [0u8; CODES];
+    let mut packed = [0u8; PACKED];
+    encode_rows(samples, sides, dst, &mut above, &mut codes, &mut packed)
 }
 
 // Packs the first width × height samples of a channel into the first bytes of dst, and returns the number of bytes written. Refusals 1, 2, 11,
 // then 12; FORMAT 8.3 says what each leaves in dst.
 pub fn compress_8bpp_channel(
-    src: &[u8],
-    layout: Layout,
-    channel: Channel,
+    samples: Samples,
     dst: &mut [u8],
     width: usize,
     height: usize,
-) -> Packed
-    ensures answer { packed_to_answer result ≡ (pack_plane width height (length dst.old) (samples_of layout channel src.now)).answer }
-    ensures slice { dst.new ≡ overwrite dst.old (pack_plane width height (length dst.old) (samples_of layout channel src.now)).written }
+) -> Result<usize, Refusal>
+    ensures answer { to_answer result ≡ (pack_plane width height (length dst.old) (samples_in samples.entry)).answer }
+    ensures slice { dst.new ≡ overwrite dst.old (pack_plane width height (length dst.old) (samples_in samples.entry)).written }
 {
-    if width == 0 {
-        return Packed::Refused(Refusal::ZeroSize);
+    let sides = ValidSides::new(width, height)?;
+    if samples.count() < sides.area() {
+        return Err(Refusal::NotEnoughBytes);
     }
-    if height == 0 {
-        return Packed::Refused(Refusal::ZeroSize);
+    if sides.width <= NARROW {
+        return encode::<NARROW, NARROW_CODES, NARROW_PACKED>(samples, sides, dst);
     }
-    if MAX_SIDE < width {
-        return Packed::Refused(Refusal::TooLarge);
-    }
-    if MAX_SIDE < height {
-        return Packed::Refused(Refusal::TooLarge);
-    }
-    if sample_count(src, layout) < width * height {
-        return Packed::Refused(Refusal::NotEnoughBytes);
-    }
-    encode(src, layout, channel, dst, width, height)
+    encode::<MAX_SIDE, WIDE_CODES, WIDE_PACKED>(samples, sides, dst)
 }
 
 // The same for a slice that has the samples of one plane. The channel does not matter then.
-pub fn compress_8bpp_plane(src: &[u8], dst: &mut [u8], width: usize, height: usize) -> Packed
-    ensures answer { packed_to_answer result ≡ (pack_plane width height (length dst.old) src.now).answer }
+pub fn compress_8bpp_plane(
+    src: &[u8],
+    dst: &mut [u8],
+    width: usize,
+    height: usize,
+) -> Result<usize, Refusal>
+    ensures answer { to_answer result ≡ (pack_plane width height (length dst.old) src.now).answer }
     ensures slice { dst.new ≡ overwrite dst.old (pack_plane width height (length dst.old) src.now).written }
 {
-    compress_8bpp_channel(src, Layout::Planar, Channel::R, dst, width, height)
+    let samples = Samples {
+        src,
+        layout: Layout::Planar,
+        channel: Channel::R,
+    };
+    compress_8bpp_channel(samples, dst, width, height)
 }

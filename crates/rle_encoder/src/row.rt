@@ -2,7 +2,7 @@
 // with one copy. A row that does not fit is packed again by rle_scanline_encoder, which writes the segments that fit. So is a short row: that is
 // faster than to make its flags.
 ghost use Rattle.std.specs.Prelude.{◌≡◌, ◌+◌, ◌*◌, ◌/◌, ◌≤◌, min, length, take, drop};
-ghost use Rattle.rle_format.specs.Answer.{packed_to_answer};
+ghost use Rattle.rle_format.specs.Answer.{to_answer};
 ghost use Rattle.rle_format.specs.Segment.{segments_bytes};
 ghost use Rattle.rle_format.specs.Pack.{row_segments};
 ghost use Rattle.rle_format.specs.Written.{answer_at, slice_at};
@@ -11,7 +11,7 @@ ghost use Rattle.rle_encoder.specs.Put.{Put};
 
 use crate::runs::{flag_runs, next_clear, next_set};
 use crate::segment::put_segment;
-use rle_format::Packed;
+use rle_format::Refusal;
 use rle_scanline_encoder::encode_scanline;
 
 // The width up to which a row is packed segment by segment.
@@ -66,16 +66,13 @@ fn encode_row(codes: &[u8], width: usize, packed: &mut [u8]) -> usize
 }
 
 // Packs a row into dst from index `at` on, segment by segment, and returns the index behind it.
-fn encode_by_segments(codes: &[u8], dst: &mut [u8], at: usize) -> Packed
+fn encode_by_segments(codes: &[u8], dst: &mut [u8], at: usize) -> Result<usize, Refusal>
     requires { at ≤ length dst.old }
-    ensures answer { packed_to_answer result ≡ answer_at (row_segments codes.now) dst.old at }
+    ensures answer { to_answer result ≡ answer_at (row_segments codes.now) dst.old at }
     ensures slice { dst.new ≡ slice_at (row_segments codes.now) dst.old at }
 {
-    let answer = encode_scanline(codes, &mut dst[at..]);
-    let Packed::Written(bytes) = answer else {
-        return answer;
-    };
-    Packed::Written(at + bytes)
+    let bytes = encode_scanline(codes, &mut dst[at..])?;
+    Ok(at + bytes)
 }
 
 // Packs the first `width` coded values into dst from index `at` on, and returns the index behind them; or refusal 12, after the segments that fit
@@ -86,16 +83,16 @@ pub(crate) fn encode_next_row(
     packed: &mut [u8],
     dst: &mut [u8],
     at: usize,
-) -> Packed
+) -> Result<usize, Refusal>
     requires { (width ≤ 8192) × (width + 15 ≤ length codes.now) × (width + width / 15 + 24 ≤ length packed.old) × (at ≤ length dst.old) }
-    ensures answer { packed_to_answer result ≡ answer_at (row_segments (take width codes.now)) dst.old at }
+    ensures answer { to_answer result ≡ answer_at (row_segments (take width codes.now)) dst.old at }
     ensures slice { dst.new ≡ slice_at (row_segments (take width codes.now)) dst.old at }
 {
     if SHORT_ROW < width {
         let bytes = encode_row(codes, width, packed);
         if bytes <= dst.len() - at {
             dst[at..at + bytes].copy_from_slice(&packed[0..bytes]);
-            return Packed::Written(at + bytes);
+            return Ok(at + bytes);
         }
     }
     encode_by_segments(&codes[0..width], dst, at)
