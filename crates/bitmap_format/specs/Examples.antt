@@ -1,17 +1,16 @@
 -- Examples of pictures that are unpacked, worked out by hand, and the examples of planes of FORMAT 10: one constant list, what the
 -- definitions compute for each, and what is expected. proofs/Examples.antt has the one proof.
-use Rattle.std.specs.Prelude.{ℕ, Bool, true, false, List, [], ◌∷◌, ◌++◌, map, length, replicate}
+use Rattle.std.specs.Prelude.{ℕ, Bool, true, false, List, [], ◌∷◌, ◌++◌, map, length, replicate, Result, Ok, Err}
+use Rattle.rle_format.specs.declared.Refusal.{Refusal}
 use Rattle.rle_format.specs.declared.Refusal.TheVariants.{ShortImage}
-use Rattle.rle_format.specs.Answer.{Answer, counted, refused}
+use Rattle.rle_format.specs.Answer.{Answer, counted, refused, to_answer}
 use Rattle.rle_format.specs.Examples as planes
 use Rattle.bitmap_format.specs.declared.BitmapStreamHeader.{BitmapStreamHeader}
 use Rattle.bitmap_format.specs.declared.ColorPlaneDefinition.{ColorPlaneDefinition}
 use Rattle.bitmap_format.specs.declared.ColorPlaneDefinition.TheVariants.{Argb, AYCoCg}
-use Rattle.bitmap_format.specs.declared.Decoded.{Decoded}
-use Rattle.bitmap_format.specs.declared.Decoded.TheVariants.{Written, Refused}
 use Rattle.bitmap_format.specs.Pixels.{three_bytes}
 use Rattle.bitmap_format.specs.Sizes.{min_body_size_of, work_size_of, image_size_of}
-use Rattle.bitmap_format.specs.Picture.{PictureOutcome, check_picture, unpack_picture, decoded_to_answer}
+use Rattle.bitmap_format.specs.Picture.{PictureOutcome, check_picture, unpack_picture}
 
 pub data Example : Type 0 where
   -- an example of a plane
@@ -24,8 +23,8 @@ pub data Example : Type 0 where
   sizes : BitmapStreamHeader → (width height body work image : ℕ) → Example
   -- the lengths of the slices, and the answer of all checks
   checks : BitmapStreamHeader → (width height body work image : ℕ) → Answer → Example
-  -- an answer of the code, and the same as a number of bytes or of a refusal
-  unpack_answer : Decoded → Answer → Example
+  -- what the code returns, and the same as a number of bytes or of a refusal
+  unpack_answer : Result ℕ Refusal → Answer → Example
 
 -- n bytes that no call has written
 abbrev pub unwritten : (n : ℕ) → List ℕ
@@ -48,7 +47,7 @@ computed (unpacks header w h body work image a) =
     ∷ []
 computed (sizes header w h body work image) = planes.values (min_body_size_of header w h ∷ work_size_of three_bytes header w h ∷ image_size_of three_bytes w h ∷ []) ∷ []
 computed (checks header w h body work image a) = planes.only_answer (check_picture three_bytes header w h body work image) ∷ []
-computed (unpack_answer d a) = planes.only_answer (decoded_to_answer d) ∷ []
+computed (unpack_answer d a) = planes.only_answer (to_answer d) ∷ []
 
 -- what is expected
 abbrev pub expected : Example → List planes.After
@@ -185,8 +184,8 @@ refusals =
     ∷ checks (argb true false) 3 2 6 17 20 (refused 5)
     ∷ checks (argb true false) 3 2 6 18 17 (refused 6)
     ∷ checks (argb true false) 3 2 6 18 20 (counted 18)
-    ∷ unpack_answer (Written 3) (counted 3)
-    ∷ unpack_answer (Refused ShortImage) (refused 6)
+    ∷ unpack_answer (Ok 3) (counted 3)
+    ∷ unpack_answer (Err ShortImage) (refused 6)
     ∷ []
 
 abbrev pub examples : List Example

@@ -1,11 +1,11 @@
 -- Pictures packed (FORMAT 7), with results worked out by hand, since document 01 has no example of it: one constant list, what the
 -- definitions compute for each, and what is expected. proofs/Examples.antt has the one proof.
-use Rattle.std.specs.Prelude.{ℕ, Bool, true, false, List, [], ◌∷◌, ◌++◌, length, replicate}
+use Rattle.std.specs.Prelude.{ℕ, Bool, true, false, List, [], ◌∷◌, ◌++◌, length, replicate, Result, Ok, Err}
+use Rattle.rle_format.specs.declared.Refusal.{Refusal}
 use Rattle.rle_format.specs.declared.Refusal.TheVariants.{NotEnoughBytes}
 use Rattle.rle_format.specs.Slice.{overwrite}
 use Rattle.pixel_format.specs.Channel.{bgr_a}
 use Rattle.bitmap_format.specs.declared.Encoded.{Encoded}
-use Rattle.bitmap_format.specs.declared.Encoded.TheVariants.{Written, Refused}
 use Rattle.bitmap_format.specs.PackPicture.{three_planes, pixel_planes, pixel_planes_alpha, pack_picture, header_to_send_of, EncodedAnswer, encoded_count, encoded_refusal, with_header, encoded_to_answer}
 use Rattle.bitmap_format.specs.Examples.{argb}
 
@@ -17,8 +17,8 @@ pub record After : Type 0 where
 pub data Example : Type 0 where
   -- the planes of a picture, whether alpha is one of them, the slice after the picture is packed, and the answer
   packs : (alpha rle : Bool) (width height : ℕ) (planes : List (List ℕ)) (slice : List ℕ) → EncodedAnswer → Example
-  -- an answer of the code, and the same as a number of bytes or of a refusal
-  pack_answer : Encoded → EncodedAnswer → Example
+  -- what the code returns, and the same as a number of bytes or of a refusal
+  pack_answer : Result Encoded Refusal → EncodedAnswer → Example
 
 -- what the definitions compute; the slice has the length that it has afterwards, and all its bytes are `EE` before the call
 abbrev pub computed : Example → After
@@ -88,8 +88,8 @@ refusals =
     ∷ packs false true 1 8193 (three []) [] (encoded_refusal 2)
     ∷ packs false true 8192 8192 (three []) [] (encoded_refusal 11)
     ∷ packs false true 2 2 (three_planes (replicate 4 1) (replicate 4 2) (replicate 3 3)) [] (encoded_refusal 11)
-    ∷ pack_answer (Written 4 (argb true false)) (encoded_count 4 (argb true false))
-    ∷ pack_answer (Refused NotEnoughBytes) (encoded_refusal 11)
+    ∷ pack_answer (Ok (record { bytes = 4; header = argb true false })) (encoded_count 4 (argb true false))
+    ∷ pack_answer (Err NotEnoughBytes) (encoded_refusal 11)
     ∷ []
 
 abbrev pub examples : List Example

@@ -1,6 +1,7 @@
 -- Packing a picture (FORMAT 7): its planes and their order, the RLE body and the raw body, the refusals in their order, and the answer.
-use Rattle.std.specs.Prelude.{ℕ, ◌*◌, Bool, false, ◌||◌, List, [], ◌∷◌, ◌++◌, length, take, ltb}
+use Rattle.std.specs.Prelude.{ℕ, ◌*◌, Bool, false, ◌||◌, List, [], ◌∷◌, ◌++◌, length, take, ltb, Result, Ok, Err}
 use Rattle.rle_format.specs.Choice.{choose}
+use Rattle.rle_format.specs.declared.Refusal.{Refusal}
 use Rattle.rle_format.specs.Sides.{check_sides_of}
 use Rattle.rle_format.specs.Answer.{Answer, counted, refused, Outcome, refuse, number}
 use Rattle.rle_format.specs.Segment.{Segment}
@@ -10,7 +11,6 @@ use Rattle.pixel_format.specs.Channel.{ChannelOffsets, channel}
 use Rattle.bitmap_format.specs.declared.BitmapStreamHeader.{BitmapStreamHeader}
 use Rattle.bitmap_format.specs.declared.ColorPlaneDefinition.TheVariants.{Argb}
 use Rattle.bitmap_format.specs.declared.Encoded.{Encoded}
-use Rattle.bitmap_format.specs.declared.Encoded.TheVariants.{Written, Refused}
 use Rattle.bitmap_format.specs.Checks.{Check, check, first_refusal_of}
 
 -- ---- the planes, each as the list of its samples
@@ -104,6 +104,6 @@ drop_header (encoded_count n header) = counted n
 drop_header (encoded_refusal r) = refused r
 
 -- the answer of packing a picture
-abbrev pub encoded_to_answer : Encoded → EncodedAnswer
-encoded_to_answer (Written n header) = encoded_count n header
-encoded_to_answer (Refused r) = encoded_refusal (number r)
+abbrev pub encoded_to_answer : Result Encoded Refusal → EncodedAnswer
+encoded_to_answer (Ok e) = encoded_count e.bytes e.header
+encoded_to_answer (Err r) = encoded_refusal (number r)

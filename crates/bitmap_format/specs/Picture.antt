@@ -2,13 +2,11 @@
 use Rattle.std.specs.Prelude.{ℕ, Bool, false, ◌||◌, List, [], ◌∷◌, length, drop, ltb, eqb}
 use Rattle.rle_format.specs.Choice.{choose}
 use Rattle.rle_format.specs.Sides.{check_sides_of}
-use Rattle.rle_format.specs.Answer.{Answer, counted, refused, number}
+use Rattle.rle_format.specs.Answer.{Answer, counted, refused}
 use Rattle.pixel_format.specs.Channel.{ChannelOffsets}
 use Rattle.bitmap_format.specs.declared.BitmapStreamHeader.{BitmapStreamHeader}
 use Rattle.bitmap_format.specs.declared.ColorPlaneDefinition.{ColorPlaneDefinition}
 use Rattle.bitmap_format.specs.declared.ColorPlaneDefinition.TheVariants.{Argb, AYCoCg}
-use Rattle.bitmap_format.specs.declared.Decoded.{Decoded}
-use Rattle.bitmap_format.specs.declared.Decoded.TheVariants.{Written, Refused}
 use Rattle.bitmap_format.specs.Checks.{Check, check, first_refusal_of}
 use Rattle.bitmap_format.specs.Planes.{PlaneAt, alpha_planes, planes_with_alpha_at}
 use Rattle.bitmap_format.specs.Pixels.{PixelForm, three_bytes, four_bytes}
@@ -94,8 +92,3 @@ unpack_picture header width height body work image = unpack_to three_bytes heade
 -- to four-byte pixels with R, G, B and A at these offsets
 abbrev pub unpack_pixels : ChannelOffsets → BitmapStreamHeader → (width height : ℕ) (body work image : List ℕ) → PictureOutcome
 unpack_pixels p header width height body work image = unpack_to (four_bytes p) header width height body work image
-
--- the answer of unpacking a picture
-abbrev pub decoded_to_answer : Decoded → Answer
-decoded_to_answer (Written n) = counted n
-decoded_to_answer (Refused r) = refused (number r)

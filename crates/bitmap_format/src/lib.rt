@@ -13,7 +13,6 @@ ghost use Rattle.bitmap_format.specs.Sizes.{min_body_size_of, colour_planes_size
 
 use pixel_format::PixelFormat;
 use plane_sizes::{is_within, min_color_planes_size, min_plane_size};
-use rle_format::Refusal;
 
 // The plane definition (FORMAT 1.3). The names are IronRDP's.
 #[derive(Clone, Copy)]
@@ -41,21 +40,11 @@ pub struct Rgb {
     pub b: u8,
 }
 
-// The answer of unpacking a picture: the number of bytes written to the image, or the refusal.
+// A picture that was packed: the number of bytes written, and the header record to send.
 #[derive(Clone, Copy)]
-pub enum Decoded {
-    Written(usize),
-    Refused(Refusal),
-}
-
-// The answer of packing a picture: the number of bytes written and the header record to send, or the refusal.
-#[derive(Clone, Copy)]
-pub enum Encoded {
-    Written {
-        bytes: usize,
-        header: BitmapStreamHeader,
-    },
-    Refused(Refusal),
+pub struct Encoded {
+    pub bytes: usize,
+    pub header: BitmapStreamHeader,
 }
 
 // Whether the chroma planes are subsampled.
