@@ -27,7 +27,7 @@ use Rattle.bitmap_format.specs.Checks.{first_refusal_of}
 use Rattle.bitmap_format.specs.UnpackPlanes.{unpack_planes}
 use Rattle.bitmap_format.specs.Picture.{PictureOutcome, refused_picture, is_loss_level_invalid_of, picture_checks, check_picture, write_image, unpack_raw, image_from_work, unpack_rle, decoded_to_answer}
 use Rattle.bitmap_format.proofs.Checks.{sides_passed}
-use Rattle.bitmap_format.proofs.Picture.{rle_work_enough, raw_body_enough}
+use Rattle.bitmap_format.proofs.UnpackPicture.{rle_work_enough, raw_body_enough}
 use Rattle.bitmap_planes.proofs.PlaneSequence.{PlanesRead}
 use Rattle.bitmap_image.specs.WritePlanes.{write_planes_of}
 use Rattle.bitmap_image.proofs.PlanesFit.{PlanesKnown, planes_written}

@@ -12,7 +12,7 @@ use Rattle.bitmap_format.specs.declared.BitmapStreamHeader.{BitmapStreamHeader}
 use Rattle.bitmap_format.specs.declared.ColorPlaneDefinition.{ColorPlaneDefinition}
 use Rattle.bitmap_format.specs.declared.ColorPlaneDefinition.TheVariants.{Argb, AYCoCg}
 use Rattle.bitmap_format.specs.Picture.{is_loss_level_invalid_of}
-use Rattle.bitmap_format.proofs.Picture.{loss_level_range}
+use Rattle.bitmap_format.proofs.UnpackPicture.{loss_level_range}
 use Rattle.bitmap_format.specs.HeaderByte.{is_set, definition_from_byte_of, header_from_byte_of, definition_bits_of, header_to_byte_of}
 
 -- ---- a header record that was read

@@ -2,12 +2,13 @@ pub mod Examples
 pub mod Answer
 pub mod Checks
 pub mod Sizes
+pub mod CheckedSizes
 pub mod Integers
 pub mod Colour
 pub mod Image
 pub mod UnpackPlanes
 pub mod PictureChecks
-pub mod Picture
+pub mod UnpackPicture
 pub mod Pixels
 pub mod PlanesAlike
 pub mod AlphaKept

@@ -29,7 +29,7 @@ use Rattle.bitmap_format.specs.Picture.{PictureOutcome, is_loss_level_invalid_of
 use Rattle.bitmap_format.specs.PictureClaims.{Buffers, ThreeBytesUnchanged, pixel_index, alpha_samples, EachPixelHolds, AlphaChecked, AlphaStaysWhole, RefusedAlphaLeavesColours, LargeEnough, in_form, SameRefusals}
 use Rattle.bitmap_format.proofs.Sizes.{work_size_rle}
 use Rattle.bitmap_format.proofs.PictureChecks.{checks_passed}
-use Rattle.bitmap_format.proofs.Picture.{unpack_to_refused, unpack_to_rle, unpack_to_raw}
+use Rattle.bitmap_format.proofs.UnpackPicture.{unpack_to_refused, unpack_to_rle, unpack_to_raw}
 use Rattle.bitmap_format.proofs.Pixels.{red_at, green_at, blue_at, alpha_at_lem}
 use Rattle.bitmap_format.proofs.PlanesAlike.{written_all}
 use Rattle.bitmap_format.proofs.AlphaKept.{alpha_whole, alpha_refused, forms_alike}

@@ -20,7 +20,7 @@ use Rattle.bitmap_format.specs.Sizes.{min_body_size_of, alpha_offset_of, work_si
 use Rattle.bitmap_format.specs.UnpackPlanes.{PlanesOutcome, add_read, unpack_plane_at, unpack_planes}
 use Rattle.bitmap_format.specs.Picture.{PictureOutcome, is_loss_level_invalid_of, check_picture, write_image, unpack_raw, image_from_work, unpack_rle, unpack_to}
 use Rattle.bitmap_format.proofs.UnpackPlanes.{work_after, unpack_planes_read}
-use Rattle.bitmap_format.proofs.Picture.{unpack_to_refused, unpack_to_rle, unpack_to_raw}
+use Rattle.bitmap_format.proofs.UnpackPicture.{unpack_to_refused, unpack_to_rle, unpack_to_raw}
 use Rattle.bitmap_format.specs.HeaderByte.{header_from_byte_of}
 use Rattle.bitmap_format.specs.Stream.{split_rest, split_stream_of, unpack_split, unpack_stream_by, unpack_stream_to}
 use Rattle.bitmap_format.proofs.HeaderByte.{read_level_valid}

@@ -1,14 +1,12 @@
 -- The laws of the sizes: the sums over the list of planes as sums by the sides, and how large they are.
-use Prim.Native.Nat.{ℕ, ◌+◌, ◌*◌, ◌/◌, ◌%◌, ◌≤◌}
+use Prim.Native.Nat.{ℕ, ◌+◌, ◌*◌, ◌≤◌}
 use mathlib.Core.Bool.{Bool, true, false}
 use mathlib.Core.Path.{◌≡◌, refl, sym, ap, ◌∙◌}
 use mathlib.Core.List.{◌++◌}
-use native.Mathlib.Nat.{mul-le-mul, zero-add}
+use native.Mathlib.Nat.{mul-le-mul, mul_assoc, zero-add}
 use native.Mathlib.Omega.{arith}
-use mir.Val.{Fits}
-use mir.Syntax.{w64}
 use Rattle.rle_format.specs.Choice.{choose}
-use Rattle.rle_format.proofs.Plane.{area_max}
+use Rattle.rle_format.specs.Sides.{AllowedSides}
 use Rattle.pixel_format.specs.declared.PixelFormat.{PixelFormat}
 use Rattle.pixel_format.specs.declared.PixelFormat.TheVariants.{Rgb24, FourBytes}
 use Rattle.pixel_format.specs.declared.PixelLayout.{PixelLayout}
@@ -27,26 +25,26 @@ choose_false t a b e = ap (λ (t : Bool). choose t a b) e
 
 -- ---- a side of a chroma plane
 
-pub chroma_side_subsampled : (s : Bool) (side : ℕ) → s ≡ true → side / 2 + side % 2 ≡ chroma_side_of s side
-unfolding chroma_side_of
-chroma_side_subsampled true side e = omega arith
-chroma_side_subsampled false side e = let z : ◌≡◌ {A = ℕ} 0 1 = cc in absurd (omega arith)
-
-pub chroma_side_full : (s : Bool) (side : ℕ) → s ≡ false → side ≡ chroma_side_of s side
-unfolding chroma_side_of
-chroma_side_full s side e = rw e
-
 pub chroma_side-max : (s : Bool) (side : ℕ) → chroma_side_of s side ≤ side
 unfolding chroma_side_of
 chroma_side-max true side = omega arith
 chroma_side-max false side = omega arith
 
--- ---- a plane
+-- chroma planes of allowed sides have allowed sides
+pub chroma_sides_allowed : (s : Bool) (w h cw ch : ℕ) → AllowedSides w h → cw ≡ chroma_side_of s w → ch ≡ chroma_side_of s h → AllowedSides cw ch
+unfolding chroma_side_of
+chroma_sides_allowed s w h cw ch a ew eh = record {
+  some_width = λ e. a.some_width (none s w (sym ew ∙ e));
+  some_height = λ e. a.some_height (none s h (sym eh ∙ e));
+  wide = omega (arith, a.wide, chroma_side-max s w);
+  high = omega (arith, a.high, chroma_side-max s h);
+}
+  where
+    none : (s : Bool) (side : ℕ) → chroma_side_of s side ≡ 0 → side ≡ 0
+    none true side e = omega arith
+    none false side e = e
 
-pub product_fits : {a b : ℕ} → a ≤ 65536 → b ≤ 65536 → Fits w64 (a * b)
-product_fits {a} {b} la lb =
-    let most : a * b ≤ 65536 * 65536 = mul-le-mul la lb in
-    omega arith
+-- ---- a plane
 
 -- the minimum size of a plane of these sides; its offset does not matter
 abbrev pub min_size : (rle : Bool) (w h : ℕ) → ℕ
@@ -55,10 +53,6 @@ min_size rle w h = min_plane_size_of rle (plane_at w h 0)
 pub min_plane_size_offset : (rle : Bool) (w h o : ℕ) → min_plane_size_of rle (plane_at w h o) ≡ min_size rle w h
 min_plane_size_offset true w h o = refl
 min_plane_size_offset false w h o = refl
-
-pub min_size-max : (rle : Bool) (w h : ℕ) → w ≤ 8192 → h ≤ 8192 → min_size rle w h ≤ 67108864
-min_size-max true w h lw lh = area_max _ _ (omega arith) (omega arith)
-min_size-max false w h lw lh = area_max _ _ (omega arith) (omega arith)
 
 -- ---- the planes of a picture
 
@@ -165,6 +159,10 @@ module _ (format : PixelFormat) (layout : PixelLayout) (flagged : Bool) (w h : �
   shown_unflagged e = sym (λ i. shown_alpha_size_of (format_to_form (four i)) (e i) w h)
 
 -- ---- the image
+
+pub image_product : (form : PixelForm) (w h bytes area : ℕ) → bytes ≡ bytes_per_pixel_of form → area ≡ w * h → bytes * area ≡ image_size_of form w h
+unfolding image_size_of
+image_product form w h bytes area eb ea = (λ i. eb i * ea i) ∙ sym (mul_assoc (bytes_per_pixel_of form) w h)
 
 pub bytes_per_pixel-max : (form : PixelForm) → bytes_per_pixel_of form ≤ 4
 bytes_per_pixel-max three_bytes = omega arith

@@ -14,7 +14,7 @@ use Rattle.bitmap_format.specs.Pixels.{PixelForm}
 use Rattle.bitmap_format.specs.Picture.{unpack_to}
 use Rattle.bitmap_format.specs.PackPicture.{picture_segments, check_pack, pack_picture, header_to_send_of}
 use Rattle.bitmap_format.specs.Stream.{split_rest, split_stream_of, unpack_split, unpack_stream_by, unpack_stream_to, with_header_byte, pack_stream, pack_picture_stream}
-use Rattle.bitmap_format.proofs.Picture.{image_count_max}
+use Rattle.bitmap_format.proofs.UnpackPicture.{image_count_max}
 use Rattle.bitmap_format.proofs.PackRoom.{pack_picture_within, pack_picture_two_bytes_enough}
 use Rattle.bitmap_format.proofs.StreamClaims.{picture_gives_back}
 

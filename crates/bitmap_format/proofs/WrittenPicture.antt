@@ -16,7 +16,7 @@ use Rattle.bitmap_format.specs.Pixels.{PixelForm}
 use Rattle.bitmap_format.specs.UnpackPlanes.{unpack_planes}
 use Rattle.bitmap_format.specs.Picture.{PictureOutcome, planes_for, check_picture, write_image, unpack_raw, image_from_work, unpack_rle, unpack_to}
 use Rattle.bitmap_format.proofs.PictureChecks.{ChecksPassed, checks_passed}
-use Rattle.bitmap_format.proofs.Picture.{unpack_to_refused, unpack_to_rle, unpack_to_raw}
+use Rattle.bitmap_format.proofs.UnpackPicture.{unpack_to_refused, unpack_to_rle, unpack_to_raw}
 
 -- the lists that the rows are made of
 abbrev pub planes_shown : PixelForm → BitmapStreamHeader → (w h : ℕ) (body work : List ℕ) → List ℕ

@@ -7,6 +7,7 @@ pub mod Image
 pub mod Counting
 pub mod UnpackPlanes
 pub mod Picture
+pub mod CheckedPicture
 pub mod PictureClaims
 pub mod PackPicture
 pub mod HeaderByte

@@ -2,6 +2,7 @@
 // decoder and encoder cite are in specs/.
 #![tactic(auto)]
 
+mod picture;
 mod plane_sizes;
 
 ghost use Rattle.std.specs.Prelude.{◌≡◌, ℕ, ◌≤◌};
@@ -11,8 +12,10 @@ ghost use Rattle.bitmap_format.specs.Pixels.{format_to_form, bytes_per_pixel_of,
 ghost use Rattle.bitmap_format.specs.Picture.{is_loss_level_invalid_of};
 ghost use Rattle.bitmap_format.specs.Sizes.{min_body_size_of, colour_planes_size, work_size_of, image_size_of};
 
+pub use picture::Picture;
 use pixel_format::PixelFormat;
-use plane_sizes::{is_within, min_color_planes_size, min_plane_size};
+use plane_sizes::{min_color_planes_size, min_plane_size};
+use rle_format::ValidSides;
 
 // The plane definition (FORMAT 1.3). The names are IronRDP's.
 #[derive(Clone, Copy)]
@@ -54,13 +57,14 @@ pub fn has_subsampled_chroma(definition: ColorPlaneDefinition) -> bool
     match definition {
         ColorPlaneDefinition::Argb => false,
         ColorPlaneDefinition::AYCoCg {
-            color_loss_level: _,
             use_chroma_subsampling,
+            ..
         } => use_chroma_subsampling,
     }
 }
 
 // Whether the definition is AYCoCg with a loss level outside 1 to 7.
+#[tactic(auto, unfolding(crate::specs::Picture::is_loss_level_invalid_of))]
 pub fn is_loss_level_invalid(definition: ColorPlaneDefinition) -> bool
     ensures { result ≡ is_loss_level_invalid_of definition }
 {
@@ -68,17 +72,18 @@ pub fn is_loss_level_invalid(definition: ColorPlaneDefinition) -> bool
         ColorPlaneDefinition::Argb => false,
         ColorPlaneDefinition::AYCoCg {
             color_loss_level,
-            use_chroma_subsampling: _,
-        } => color_loss_level == 0 || 7 < color_loss_level,
+            ..
+        } => !matches!(color_loss_level, 1..=7),
     }
 }
 
-// A side of a chroma plane, given that of the picture (FORMAT 2.2). This way of rounding up does not overflow.
+// A side of a chroma plane, given that of the picture (FORMAT 2.2).
+#[tactic(auto, unfolding(crate::specs::Planes::chroma_side_of))]
 pub fn chroma_side(subsampling: bool, side: usize) -> usize
     ensures { result ≡ chroma_side_of subsampling side }
 {
     if subsampling {
-        return side / 2 + side % 2;
+        return side.div_ceil(2);
     }
     side
 }
@@ -87,15 +92,15 @@ pub fn chroma_side(subsampling: bool, side: usize) -> usize
 pub fn min_body_size(header: BitmapStreamHeader, width: usize, height: usize) -> usize
     ensures { result ≡ check_sides_of (λ (_ : ℕ). 0) width height (min_body_size_of header width height) }
 {
-    if !is_within(width, height) {
+    let Ok(sides) = ValidSides::new(width, height) else {
         return 0;
-    }
+    };
     let rle = header.enable_rle_compression;
     let definition = header.color_plane_definition;
     let subsampling = has_subsampled_chroma(definition);
-    let color = min_color_planes_size(rle, subsampling, width, height);
+    let color = min_color_planes_size(rle, subsampling, sides);
     if header.use_alpha {
-        return min_plane_size(rle, width, height) + color;
+        return min_plane_size(rle, sides) + color;
     }
     color
 }
@@ -104,12 +109,12 @@ pub fn min_body_size(header: BitmapStreamHeader, width: usize, height: usize) ->
 pub fn color_planes_size(header: BitmapStreamHeader, width: usize, height: usize) -> usize
     ensures { result ≡ check_sides_of (λ (_ : ℕ). 0) width height (colour_planes_size header width height) }
 {
-    if !is_within(width, height) {
+    let Ok(sides) = ValidSides::new(width, height) else {
         return 0;
-    }
+    };
     let definition = header.color_plane_definition;
     let subsampling = has_subsampled_chroma(definition);
-    min_color_planes_size(false, subsampling, width, height)
+    min_color_planes_size(false, subsampling, sides)
 }
 
 // The size of the alpha plane if the pixels show it, else 0; 0 too if the sides are refused. The second clause bounds it, so that callers can add
@@ -118,14 +123,14 @@ pub fn shown_alpha_size(format: PixelFormat, flagged: bool, width: usize, height
     ensures size { result ≡ check_sides_of (λ (_ : ℕ). 0) width height (shown_alpha_size_of (format_to_form format) flagged width height) }
     ensures bound { result ≤ 67108864 }
 {
-    if !is_within(width, height) {
+    let Ok(sides) = ValidSides::new(width, height) else {
         return 0;
-    }
+    };
     let PixelFormat::FourBytes(_) = format else {
         return 0;
     };
     if flagged {
-        return width * height;
+        return sides.area();
     }
     0
 }
@@ -139,14 +144,14 @@ pub fn work_size(
 ) -> usize
     ensures { result ≡ check_sides_of (λ (_ : ℕ). 0) width height (work_size_of (format_to_form format) header width height) }
 {
-    if !is_within(width, height) {
+    let Ok(sides) = ValidSides::new(width, height) else {
         return 0;
-    }
+    };
     if header.enable_rle_compression {
         let definition = header.color_plane_definition;
         let subsampling = has_subsampled_chroma(definition);
-        let color = min_color_planes_size(false, subsampling, width, height);
-        return shown_alpha_size(format, header.use_alpha, width, height) + color;
+        let color = min_color_planes_size(false, subsampling, sides);
+        return shown_alpha_size(format, header.use_alpha, sides.width, sides.height) + color;
     }
     0
 }
@@ -166,8 +171,8 @@ pub fn bytes_per_pixel(format: PixelFormat) -> usize
 pub fn image_size(format: PixelFormat, width: usize, height: usize) -> usize
     ensures { result ≡ check_sides_of (λ (_ : ℕ). 0) width height (image_size_of (format_to_form format) width height) }
 {
-    if !is_within(width, height) {
+    let Ok(sides) = ValidSides::new(width, height) else {
         return 0;
-    }
-    bytes_per_pixel(format) * width * height
+    };
+    bytes_per_pixel(format) * sides.area()
 }

@@ -1,11 +1,11 @@
--- `decode_to`: the answer of the checks decides (bitmap_format's Picture.antt); where it is no refusal, the RLE or the raw picture. Assumes
+-- `decode_to`: the answer of the checks decides (bitmap_format's UnpackPicture.antt); where it is no refusal, the RLE or the raw picture. Assumes
 -- nothing.
 use Rattle.std.proofs.Common.{◌≡◌, length, refl, sym, ap, ◌∙◌}
 use Rattle.rle_format.specs.Answer.{counted, number}
 use Rattle.rle_format.specs.Sides.{AllowedSides}
 use Rattle.bitmap_format.specs.Pixels.{format_to_form}
 use Rattle.bitmap_format.specs.Picture.{check_picture, decoded_to_answer}
-use Rattle.bitmap_format.proofs.Picture.{unpack_to_refused, unpack_to_rle, unpack_to_raw}
+use Rattle.bitmap_format.proofs.UnpackPicture.{unpack_to_refused, unpack_to_rle, unpack_to_raw}
 use Rattle.bitmap_format.proofs.PictureChecks.{ChecksPassed, checks_passed}
 use Rattle.bitmap_decoder.proofs.Pictures.{result_cong, checked_sides, raw_written}
 use Rattle.bitmap_decoder.proofs.decode_to.Goals as goal

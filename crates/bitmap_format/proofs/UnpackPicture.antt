@@ -12,7 +12,6 @@ use Rattle.rle_format.specs.Choice.{choose}
 use Rattle.rle_format.specs.Answer.{Answer, counted, refused}
 use Rattle.rle_format.proofs.Answer.{refused_not_counted}
 use Rattle.bitmap_format.specs.declared.BitmapStreamHeader.{BitmapStreamHeader}
-use Rattle.bitmap_format.specs.declared.ColorPlaneDefinition.{ColorPlaneDefinition}
 use Rattle.bitmap_format.specs.declared.ColorPlaneDefinition.TheVariants.{AYCoCg}
 use Rattle.bitmap_format.specs.Planes.{PlaneAt, subsampled, colour_planes, alpha_planes, planes_with_alpha_at, planes_of}
 use Rattle.bitmap_format.specs.Pixels.{PixelForm, shown_alpha_size_of}
@@ -137,12 +136,3 @@ loss_level_range level s e = go (eqb level 0) (ltb 7 level) refl refl e
     go true b ea eb e = let z : ◌≡◌ {A = ℕ} 0 1 = cc in absurd (omega arith)
     go false true ea eb e = let z : ◌≡◌ {A = ℕ} 0 1 = cc in absurd (omega arith)
     go false false ea eb e = (some level (eqb-false level 0 ea), ltb-false 7 level eb)
-
--- the second half of that check
-pub loss_level_upper : (d : ColorPlaneDefinition) (level : ℕ) (s : Bool) → d ≡ AYCoCg level s → eqb level 0 ≡ false → ltb 7 level ≡ is_loss_level_invalid_of d
-unfolding is_loss_level_invalid_of
-loss_level_upper d level s e t = sym (ap is_loss_level_invalid_of e ∙ go (eqb level 0) t)
-  where
-    go : (a : Bool) → a ≡ false → (a || ltb 7 level) ≡ ltb 7 level
-    go true h = let z : ◌≡◌ {A = ℕ} 0 1 = cc in absurd (omega arith)
-    go false h = refl
