@@ -1,22 +1,32 @@
 -- `split_stream`: a law of proofs/Entry.antt for each return.
-use Rattle.std.proofs.Common.{sym}
-use Rattle.bitmap_stream.proofs.Entry.{split_empty, split_rle, split_one, split_padded}
+use Rattle.std.proofs.lemmas.Option.{MatchOption-at_some}
+use Rattle.std.proofs.lemmas.Result.{err_from_is_err_and}
+use Rattle.bitmap_stream.proofs.Entry.{no_first_byte, split_rle, no_pad, split_padded}
 use Rattle.bitmap_stream.proofs.split_stream.Goals as goal
 
-pub returns-then-end-eq0-clause-split : goal.returns-then-end-eq0-clause-split
-returns-then-end-eq0-clause-split c = sym (split_empty c.args.stream.now c.if-end-eq0.true)
+pub returns-in_err-first : goal.returns-in_err-first
+returns-in_err-first c =
+    let why = c.in_err-first in
+    let p = err_from_is_err_and c.from_residual.result c.from_residual.ensures.1 in
+    rw (p.1, p.2) (no_first_byte c.args.stream.now c.split_first.result why.field-0.0 c.split_first.ensures.cases why.ensures.value)
 
-pub returns-then-header-clause-split : goal.returns-then-header-clause-split
-returns-then-header-clause-split c =
+pub returns-then-header : goal.returns-then-header
+returns-then-header c =
     let k = c.header_from_byte-header in
-    split_rle c.args.stream.now k.result c.if-end-eq0.false k.ensures c.if-header.true
+    let parts = MatchOption-at_some _ _ _ c.in_ok-first.ensures.ok_part c.split_first.ensures.cases in
+    split_rle c.args.stream.now _ _ parts k.result k.ensures c.if-header.true
 
-pub returns-then-end-eq1-clause-split : goal.returns-then-end-eq1-clause-split
-returns-then-end-eq1-clause-split c =
+pub returns-in_err-_pad : goal.returns-in_err-_pad
+returns-in_err-_pad c =
     let k = c.header_from_byte-header in
-    sym (split_one c.args.stream.now k.result c.if-end-eq0.false k.ensures c.if-header.false c.if-end-eq1.true)
+    let why = c.in_err-_pad in
+    let parts = MatchOption-at_some _ _ _ c.in_ok-first.ensures.ok_part c.split_first.ensures.cases in
+    let p = err_from_is_err_and c.from_residual-in_err-_pad.result c.from_residual-in_err-_pad.ensures.1 in
+    rw (p.1, p.2) (no_pad c.args.stream.now _ _ parts k.result k.ensures c.if-header.false c.split_last.result why.field-0.0 c.split_last.ensures.cases why.ensures.value)
 
-pub returns-clause-split : goal.returns-clause-split
-returns-clause-split c =
+pub returns : goal.returns
+returns c =
     let k = c.header_from_byte-header in
-    split_padded c.args.stream.now k.result c.if-end-eq0.false k.ensures c.if-header.false c.if-end-eq1.false
+    let parts = MatchOption-at_some _ _ _ c.in_ok-first.ensures.ok_part c.split_first.ensures.cases in
+    let last = MatchOption-at_some _ _ _ c.in_ok-_pad.ensures.ok_part c.split_last.ensures.cases in
+    split_padded c.args.stream.now _ _ parts k.result k.ensures c.if-header.false _ _ last

@@ -3,13 +3,13 @@ use Rattle.bitmap_format.specs.Pixels.{format_to_form}
 use Rattle.bitmap_stream.proofs.Entry.{work_empty, work_some}
 use Rattle.bitmap_stream.proofs.stream_work_size.Goals as goal
 
-pub returns-then-stream-eq0 : goal.returns-then-stream-eq0
-returns-then-stream-eq0 c =
+pub returns-in-None : goal.returns-in-None
+returns-in-None c =
     let a = c.args in
-    work_empty (format_to_form a.format) a.width a.height a.stream.now c.if-stream-eq0.true
+    work_empty (format_to_form a.format) a.width a.height a.stream.now c.in-None.ensures.value
 
-pub returns : goal.returns
-returns c =
+pub returns-in-Some : goal.returns-in-Some
+returns-in-Some c =
     let a = c.args in
     let k = c.header_from_byte in
-    work_some (format_to_form a.format) a.width a.height c.work_size.result a.stream.now k.result c.if-stream-eq0.false k.ensures c.work_size.ensures
+    work_some (format_to_form a.format) a.width a.height c.work_size.result a.stream.now c.in-Some.byte.now k.result c.in-Some.ensures.value k.ensures c.work_size.ensures
