@@ -4,3 +4,4 @@ mod Segments
 mod Restore
 mod RowLoop
 mod RowsLoop
+mod Checked

@@ -1,14 +1,16 @@
 -- The iterations of the loops of `decode_scanline` and `decode_last_segments`, on plain values. Assumes nothing.
 use Rattle.std.proofs.Common.{◌≡◌, ℕ, ◌+◌, ◌-◌, ◌<◌, ◌≤◌, List, ◌++◌, length, take, drop, sym, refl, ap, ◌∙◌, append-nil, add-zero, arith, length-take-le, take-take, drop-drop, take_at}
 use native.Mathlib.Nat.{sub_self, sub-zero}
-use Rattle.rle_format.specs.Answer.{Answer, counted, refused, Outcome, stop, add_count, prepend}
+use Rattle.std.specs.Prelude.{Result, Err}
+use Rattle.rle_format.specs.Answer.{Answer, counted, refused, number, Outcome, stop, add_count, prepend}
 use Rattle.rle_format.specs.Segment.{last_byte_after, segment_values, value_count, segment_size, read_segment}
 use Rattle.rle_format.proofs.Outcome.{prepend_nil, prepend_prepend, answer_cong}
 use Rattle.rle_format.proofs.Segment.{length-segment_values}
 use Rattle.rle_format.proofs.Row.{row_from, row_from_full, row_from_refused, row_from_overruns, row_from_step}
 use Rattle.rle_decoder.specs.Appended.{Appended}
 use Rattle.rle_decoder.specs.NextSegment.{read, refused_by, segment_answer, values_of}
-use Rattle.rle_decoder.specs.Rows.{coded_row, row_continued}
+use Rattle.rle_decoder.specs.Rows.{coded_row, row_continued, row_to_answer, coded_values}
+use Rattle.rle_decoder.specs.declared.row_so_far.StoppedRow.{StoppedRow}
 use Rattle.rle_decoder.proofs.Segments.{FoundSegment, found_segment, found_refusal}
 
 -- the invariant of both loops: o is the outcome of the whole row, a the array on entry and codes the array now
@@ -23,8 +25,15 @@ pub record RowInvariant (src a codes : List ℕ) (o : Outcome) (from width at co
 abbrev pub Leaves : (o : Outcome) (codes : List ℕ) (width column : ℕ) → Answer → Type 0
 Leaves o codes width column answer = (answer ≡ o.answer) × ((take column codes ≡ o.written) × (column ≤ width))
 
-pub leaves_at : (o : Outcome) (codes : List ℕ) (width column k : ℕ) (answer : Answer) → k ≡ column → Leaves o codes width column answer → Leaves o codes width k answer
-leaves_at o codes width column k answer e leaves = rw e leaves
+-- the same of what the code returns
+abbrev pub Returns : (o : Outcome) (codes : List ℕ) (width : ℕ) → Result ℕ StoppedRow → Type 0
+Returns o codes width r = Leaves o codes width (coded_values width r) (row_to_answer r)
+
+pub returns_stop : (o : Outcome) (codes : List ℕ) (width column k : ℕ) (r : Result ℕ StoppedRow) (stop : StoppedRow) → r ≡ Err stop → stop.column ≡ column → number stop.reason ≡ k
+    → Leaves o codes width column (refused k) → Returns o codes width r
+returns_stop o codes width column k r stop is ec ek leaves =
+    let left : Leaves o codes width stop.column (refused (number stop.reason)) = rw (ec, ek) leaves in
+    rw is left
 
 -- a row begins
 pub row_start : (src a : List ℕ) (from width : ℕ) → from ≤ length src → RowInvariant src a a (coded_row src from width) from width from 0 0
@@ -58,11 +67,12 @@ module _ (src a codes : List ℕ) (o : Outcome) (from width at column last : ℕ
       (sym (answer_cong w), (kept ∙ sym v, h.within))
 
   -- the row is full
-  pub row_full : width ≤ column → Leaves o codes width column (counted (at - from))
+  pub row_full : width ≤ column → Leaves o codes width width (counted (at - from))
   row_full l =
+      let same : width ≡ column = omega (arith, h.within) in
       let none : width - column ≡ 0 = omega (arith, h.within) in
       let ends = row_ends codes refl (counted 0) (rw none (row_from_full last (drop at src))) in
-      (sym (ap counted (add-zero (at - from))) ∙ ends.0, ends.1)
+      (sym (ap counted (add-zero (at - from))) ∙ ends.0, (ap (λ (k : ℕ). take k codes) same ∙ ends.1.0, omega arith))
 
   -- the next segment, whose values stand behind the column of the array, which is then `now`
   module _ (some : column < width) (now : List ℕ) (appended : Appended codes now column (values_of last (read_segment (drop at src)))) where

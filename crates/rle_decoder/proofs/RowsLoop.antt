@@ -1,5 +1,5 @@
 -- The iterations of the loop of `decode`, on plain values. Assumes nothing.
-use Rattle.std.proofs.Common.{◌≡◌, ℕ, zero, suc, ◌+◌, ◌-◌, ◌*◌, ◌<◌, ◌≤◌, List, [], ◌++◌, length, take, drop, sym, refl, ap, ◌∙◌, add-zero, suc-mul, mul_comm, sub-one, arith, length-drop, length-take, length-take-le, drop-drop, drop_at}
+use Rattle.std.proofs.Common.{◌≡◌, ℕ, zero, suc, ◌+◌, ◌-◌, ◌*◌, ◌<◌, ◌≤◌, List, [], ◌++◌, length, take, drop, sym, refl, ap, ◌∙◌, add-zero, suc-mul, mul_comm, arith, length-drop, length-take, length-take-le, drop-drop, drop_at}
 use mathlib.Core.Option.{none, some}
 use Rattle.rle_format.specs.Answer.{counted, refused, stop, add_count, prepend}
 use Rattle.rle_format.specs.Slice.{overwrite, write_at}
@@ -56,10 +56,11 @@ module _ (src d₀ d : List ℕ) (w h at start : ℕ) where
         sym (write_at_nil d start) ∙ write_at_overwrite d₀ d start [] into i.rest ∙ sym (slice_cong d₀ e),
       )
 
-  -- a row is left
-  pub rows_one_left : (left : ℕ) → RowsInvariant src d₀ d w h at start left → 0 < left → RowsInvariant src d₀ d w h at start (suc (left - 1))
-  rows_one_left zero i l = absurd (omega arith)
-  rows_one_left (suc k) i l = rw (sub-one (suc k)) i
+  -- a row is left behind the first n
+  pub rows_one_left : (n : ℕ) → RowsInvariant src d₀ d w h at start (h - n) → n < h → RowsInvariant src d₀ d w h at start (suc (h - (n + 1)))
+  rows_one_left n i l =
+      let more : h - n ≡ suc (h - (n + 1)) = omega arith in
+      rw more at i
 
   module _ (k : ℕ) (i : RowsInvariant src d₀ d w h at start (suc k)) where
     pub row_fits : start + w + k * w ≤ length d₀

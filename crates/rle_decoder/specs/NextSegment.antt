@@ -1,9 +1,9 @@
--- The answer of reading a segment, and what a row does with it. Only contracts of inner functions use these.
-use Rattle.std.specs.Prelude.{ℕ, List, [], length}
-use Rattle.rle_format.specs.Answer.{Answer, refused, number}
+-- The answer of reading a segment. Only contracts of inner functions use these.
+use Rattle.std.specs.Prelude.{ℕ, List, [], length, Result, Ok, Err}
+use Rattle.rle_format.specs.Answer.{number}
 use Rattle.rle_format.specs.Segment.{SegmentRead, segment, refused_segment, last_byte_after, segment_values}
-use Rattle.rle_decoder.specs.declared.segment.NextSegment.{NextSegment}
-use Rattle.rle_decoder.specs.declared.segment.NextSegment.TheVariants.{Read, Refused}
+use Rattle.rle_decoder.specs.declared.row_so_far.Segment.{Segment}
+use Rattle.rle_decoder.specs.declared.row_so_far.StoppedRow.{StoppedRow}
 
 -- the number of raw bytes, the run, and the last byte after the segment; or a refusal
 pub data SegmentAnswer : Type 0 where
@@ -15,15 +15,10 @@ abbrev pub segment_answer : (before : ℕ) → SegmentRead → SegmentAnswer
 segment_answer before (segment s) = read (length s.raw) s.run (last_byte_after before s)
 segment_answer before (refused_segment r) = refused_by r
 
--- the same from the code's enum
-abbrev pub next_to_answer : NextSegment → SegmentAnswer
-next_to_answer (Read raw run last) = read raw run last
-next_to_answer (Refused r) = refused_by (number r)
-
--- the refusal of a row that ends at a segment: that of the segment or, if it was read, 9, since it overruns the row
-abbrev pub row_stop_of : SegmentAnswer → Answer
-row_stop_of (read raw run last) = refused 9
-row_stop_of (refused_by r) = refused r
+-- the same from what the code returns
+abbrev pub next_to_answer : Result Segment StoppedRow → SegmentAnswer
+next_to_answer (Ok s) = read s.raw s.run s.last
+next_to_answer (Err stop) = refused_by (number stop.reason)
 
 -- the values of what was read; a refusal has none
 abbrev pub values_of : (before : ℕ) → SegmentRead → List ℕ

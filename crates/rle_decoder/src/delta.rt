@@ -18,10 +18,8 @@ fn resolve_scanline_delta(codes: &[u8], rows: &mut [u8], width: usize)
     requires { (width ≤ length codes.now) × (width + width ≤ length rows.old) }
     ensures { rows.new ≡ write_at rows.old width (zip_with undo_delta (take width rows.old) (take width codes.now)) }
 {
-    let mut i = 0;
-    while i < width {
-        rows[width + i] = std::num::wrapping_add_u8(rows[i], transformed_delta(codes[i]));
-        i += 1;
+    for i in 0..width {
+        rows[width + i] = rows[i].wrapping_add(transformed_delta(codes[i]));
     }
 }
 
@@ -32,7 +30,7 @@ pub(crate) fn restore_row(codes: &[u8], dst: &mut [u8], start: usize, width: usi
     ensures { dst.new ≡ write_at dst.old start (restore_row_of (row_above dst.old start width) (take width codes.now)) }
 {
     if start == 0 {
-        dst[0..width].copy_from_slice(&codes[0..width]);
+        dst[..width].copy_from_slice(&codes[..width]);
         return;
     }
     let above = start - width;

@@ -5,16 +5,17 @@ mod copy;
 mod delta;
 mod near_end;
 mod row;
+mod row_so_far;
 mod segment;
 
-ghost use Rattle.std.specs.Prelude.{◌≡◌, ◌+◌, ◌*◌, ◌<◌, ◌≤◌, length};
+ghost use Rattle.std.specs.Prelude.{◌≡◌, ◌+◌, ◌*◌, ◌^◌, ◌<◌, ◌≤◌, length};
 ghost use Rattle.std.proofs.Math.Option.{none};
 ghost use Rattle.rle_format.specs.Answer.{to_answer};
 ghost use Rattle.rle_format.specs.Slice.{overwrite};
 ghost use Rattle.rle_format.specs.Unpack.{unpack_rows, unpack_plane};
 
 use delta::restore_row;
-use rle_format::{MAX_SIDE, Refusal, Unpacked};
+use rle_format::{MAX_SIDE, Refusal, ValidSides};
 use row::decode_scanline;
 
 // An array of codes is longer than a row: 48 bytes are written for a segment that begins at the row's last value.
@@ -24,57 +25,65 @@ const MARGIN: usize = 47;
 // a plane of 8 × 8 samples.
 const NARROW_WIDTH: usize = 256;
 
+const NARROW_CODES: usize = NARROW_WIDTH + MARGIN;
+
+const WIDE_CODES: usize = MAX_SIDE + MARGIN;
+
 // Reads the rows of a plane into the start of dst, each by way of codes, so that it reaches dst once: a full row as its samples, a refused
 // row as the coded values of its earlier segments. All rows are read by the same call, which the compiler then makes part of this loop.
-fn decode(src: &[u8], dst: &mut [u8], width: usize, height: usize, codes: &mut [u8]) -> Unpacked
-    requires { (0 < width) × (width * height ≤ length dst.old) × (width + 47 ≤ length codes.old) }
-    ensures answer { to_answer result ≡ (unpack_rows width height none src.now).answer }
-    ensures slice { dst.new ≡ overwrite dst.old (unpack_rows width height none src.now).written }
+fn decode(src: &[u8], dst: &mut [u8], sides: ValidSides, codes: &mut [u8]) -> Result<usize, Refusal>
+    requires { (sides.width * sides.height ≤ length dst.old) × (sides.width + 47 ≤ length codes.old) }
+    ensures answer { to_answer result ≡ (unpack_rows sides.width sides.height none src.now).answer }
+    ensures slice { dst.new ≡ overwrite dst.old (unpack_rows sides.width sides.height none src.now).written }
 {
-    let mut at: usize = 0;
-    let mut start: usize = 0;
-    let mut left = height;
-    while 0 < left {
-        let row = decode_scanline(src, at, codes, width);
-        let answer = row.answer;
-        let Unpacked::Read(read) = answer else {
-            let end = row.column;
-            dst[start..start + end].copy_from_slice(&codes[0..end]);
-            return answer;
-        };
+    let width = sides.width;
+    let mut at = 0;
+    let mut start = 0;
+    for _ in 0..sides.height {
+        match decode_scanline(src, at, codes, width) {
+            Ok(read) => at += read,
+            Err(stop) => {
+                dst[start..start + stop.column].copy_from_slice(&codes[..stop.column]);
+                return Err(stop.reason);
+            }
+        }
         restore_row(codes, dst, start, width);
-        at = at + read;
-        start = start + width;
-        left = left - 1;
+        start += width;
     }
-    Unpacked::Read(at)
+    Ok(at)
+}
+
+// Does so by way of an array of CODES values.
+fn decode_with<const CODES: usize>(
+    src: &[u8],
+    dst: &mut [u8],
+    sides: ValidSides,
+) -> Result<usize, Refusal>
+    requires { (sides.width * sides.height ≤ length dst.old) × (sides.width + 47 ≤ CODES) × (CODES < 2 ^ 63) }
+    ensures answer { to_answer result ≡ (unpack_rows sides.width sides.height none src.now).answer }
+    ensures slice { dst.new ≡ overwrite dst.old (unpack_rows sides.width sides.height none src.now).written }
+{
+    let mut codes = [0u8; CODES];
+    decode(src, dst, sides, &mut codes)
 }
 
 // Unpacks a plane of width × height samples from src into the first bytes of dst, and returns the number of bytes that its segments take.
 // Refusals 1, 2, 10, then 7, 8, 9; FORMAT 8.3 says what each leaves in dst.
-pub fn decompress_8bpp_plane(src: &[u8], dst: &mut [u8], width: usize, height: usize) -> Unpacked
+pub fn decompress_8bpp_plane(
+    src: &[u8],
+    dst: &mut [u8],
+    width: usize,
+    height: usize,
+) -> Result<usize, Refusal>
     ensures answer { to_answer result ≡ (unpack_plane width height (length dst.old) src.now).answer }
     ensures slice { dst.new ≡ overwrite dst.old (unpack_plane width height (length dst.old) src.now).written }
 {
-    if width == 0 {
-        return Unpacked::Refused(Refusal::ZeroSize);
+    let sides = ValidSides::new(width, height)?;
+    if dst.len() < sides.area() {
+        return Err(Refusal::ShortPlane);
     }
-    if height == 0 {
-        return Unpacked::Refused(Refusal::ZeroSize);
+    if sides.width <= NARROW_WIDTH {
+        return decode_with::<NARROW_CODES>(src, dst, sides);
     }
-    if MAX_SIDE < width {
-        return Unpacked::Refused(Refusal::TooLarge);
-    }
-    if MAX_SIDE < height {
-        return Unpacked::Refused(Refusal::TooLarge);
-    }
-    if dst.len() < width * height {
-        return Unpacked::Refused(Refusal::ShortPlane);
-    }
-    if width <= NARROW_WIDTH {
-        let mut codes = [0u8; NARROW_WIDTH + MARGIN];
-        return decode(src, dst, width, height, &mut codes[0..]);
-    }
-    let mut codes = [0u8; MAX_SIDE + MARGIN];
-    decode(src, dst, width, height, &mut codes[0..])
+    decode_with::<WIDE_CODES>(src, dst, sides)
 }

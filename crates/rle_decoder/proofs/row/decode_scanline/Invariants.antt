@@ -4,8 +4,8 @@ use Rattle.rle_decoder.specs.Rows.{coded_row}
 use Rattle.rle_decoder.proofs.RowLoop.{RowInvariant}
 use Rattle.rle_decoder.proofs.row.decode_scanline.Given as goal
 
-abbrev pub invariant-loop-column : goal.invariant-loop-column
-invariant-loop-column l = RowInvariant l.src l.fn.codes l.codes (coded_row l.src l.from l.width) l.from l.width l.at l.column l.last
+abbrev pub invariant-loop-row : goal.invariant-loop-row
+invariant-loop-row l = RowInvariant l.src l.fn.codes l.codes (coded_row l.src l.from l.width) l.from l.width l.row.at l.row.column l.row.last
 
-abbrev pub decreases-loop-column : goal.decreases-loop-column
-decreases-loop-column l = l.width - l.column
+abbrev pub decreases-loop-row : goal.decreases-loop-row
+decreases-loop-row l = l.width - l.row.column
