@@ -5,6 +5,7 @@ use mathlib.Core.Bool.{Bool, true, false, ◌||◌}
 use Prim.Native.Nat.{ℕ, ◌<◌}
 use native.Mathlib.Omega.{arith}
 use lib.Dec.{eqb, ltb}
+use Rattle.std.specs.Prelude.{Option, None, Ok, Err}
 use borrow.Author.Tests.{ne_eqb}
 use mir.Val.{SFits}
 use mir.Syntax.{w64}
@@ -17,16 +18,14 @@ use Rattle.bitmap_format.specs.HeaderByte.{header_from_byte_of}
 use Rattle.bitmap_format.specs.Stream as format
 use Rattle.bitmap_format.specs.Stream.{split_rest, split_stream_of, unpack_split, unpack_stream_by}
 use Rattle.bitmap_stream.specs.declared.Split.{Split}
-use Rattle.bitmap_stream.specs.declared.Split.TheVariants.{Body, Refused}
 use Rattle.bitmap_stream.specs.Split.{split_of}
-use Rattle.rdp6.specs.declared.CLayout.{CLayout}
-use Rattle.rdp6.specs.declared.CLayout.TheVariants.{Unknown}
+use Rattle.pixel_format.specs.declared.PixelLayout.{PixelLayout}
 use Rattle.rdp6.specs.Number.{c_number}
 use Rattle.rdp6.specs.Layout.{c_layout, unknown_layout, unchanged_picture, c_unpack_pixels, c_unpack_pixel_stream, unknown_layout_of_stream}
 use Rattle.rdp6.proofs.Numbers.{refusal_fits}
 
 -- a number over 3 means no layout, however large it is
-pub c_layout_unknown : (layout : ℕ) → 3 < layout → c_layout layout ≡ Unknown
+pub c_layout_unknown : (layout : ℕ) → 3 < layout → c_layout layout ≡ None
 unfolding c_layout
 c_layout_unknown layout h =
     simp (
@@ -49,40 +48,40 @@ unknown_fits w h = go (eqb w 0 || eqb h 0) (ltb 8192 w || ltb 8192 h)
 -- ---- unpacking a stream to an unknown layout
 
 -- work area and image stay as they are
-pub unknown_stream : (w h : ℕ) (stream work image : List ℕ) → c_unpack_pixel_stream Unknown w h stream work image ≡ unchanged_picture work image (unknown_layout_of_stream w h stream)
+pub unknown_stream : (w h : ℕ) (stream work image : List ℕ) → c_unpack_pixel_stream None w h stream work image ≡ unchanged_picture work image (unknown_layout_of_stream w h stream)
 unfolding unpack_stream_by unpack_split
 unknown_stream w h stream work image = go (split_stream_of stream)
   where
-    go : (s : format.Split) → unpack_split (λ (header : BitmapStreamHeader) (body : List ℕ). c_unpack_pixels Unknown header w h body work image) work image s
-        ≡ unchanged_picture work image (unpack_split (λ (header : BitmapStreamHeader) (body : List ℕ). c_unpack_pixels Unknown header w h body [] []) [] [] s).answer
+    go : (s : format.Split) → unpack_split (λ (header : BitmapStreamHeader) (body : List ℕ). c_unpack_pixels None header w h body work image) work image s
+        ≡ unchanged_picture work image (unpack_split (λ (header : BitmapStreamHeader) (body : List ℕ). c_unpack_pixels None header w h body [] []) [] [] s).answer
     go (format.split header body) = refl
     go (format.split_refused r) = refl
 
 -- so of a layout that means none
-pub unknown_stream_by : (w h : ℕ) (stream work image : List ℕ) (layout : CLayout) → layout ≡ Unknown
+pub unknown_stream_by : (w h : ℕ) (stream work image : List ℕ) (layout : Option PixelLayout) → layout ≡ None
     → unchanged_picture work image (unknown_layout_of_stream w h stream) ≡ c_unpack_pixel_stream layout w h stream work image
 unknown_stream_by w h stream work image layout is =
-    sym (ap (λ (l : CLayout). c_unpack_pixel_stream l w h stream work image) is ∙ unknown_stream w h stream work image)
+    sym (ap (λ (l : Option PixelLayout). c_unpack_pixel_stream l w h stream work image) is ∙ unknown_stream w h stream work image)
 
--- s is what split_stream returns
-module _ (w h : ℕ) (stream : List ℕ) (s : Split) (e : split_of stream s ≡ split_stream_of stream) where
+-- what split_stream returns decides
+module _ (w h : ℕ) (stream : List ℕ) where
   answer_of : format.Split → Answer
-  answer_of t = (unpack_split (λ (header : BitmapStreamHeader) (body : List ℕ). c_unpack_pixels Unknown header w h body [] []) [] [] t).answer
+  answer_of t = (unpack_split (λ (header : BitmapStreamHeader) (body : List ℕ). c_unpack_pixels None header w h body [] []) [] [] t).answer
 
-  pub stream_refused : (q : Refusal) → s ≡ Refused q → refused (number q) ≡ unknown_layout_of_stream w h stream
+  pub stream_refused : (q : Refusal) → split_of (Err q) ≡ split_stream_of stream → refused (number q) ≡ unknown_layout_of_stream w h stream
   unfolding unpack_stream_by unpack_split answer_of
-  stream_refused q es = ap answer_of (sym (ap (split_of stream) es) ∙ e)
+  stream_refused q e = ap answer_of e
 
-  pub stream_split : (header : BitmapStreamHeader) (end : ℕ) → s ≡ Body header end → unknown_layout w h ≡ unknown_layout_of_stream w h stream
+  pub stream_split : (s : Split) → split_of (Ok s) ≡ split_stream_of stream → unknown_layout w h ≡ unknown_layout_of_stream w h stream
   unfolding unpack_stream_by unpack_split answer_of
-  stream_split header end es = ap answer_of (sym (ap (split_of stream) es) ∙ e)
+  stream_split s e = ap answer_of e
 
 pub unknown_stream_fits : (w h : ℕ) (stream : List ℕ) → SFits w64 (c_number (unknown_layout_of_stream w h stream))
 unfolding unpack_stream_by unpack_split split_stream_of split_rest
 unknown_stream_fits w h [] = refusal_fits 13 (omega arith)
 unknown_stream_fits w h (byte ∷ rest) = go (header_from_byte_of byte).enable_rle_compression rest
   where
-    go : (rle : Bool) (rest : List ℕ) → SFits w64 (c_number (unpack_split (λ (header : BitmapStreamHeader) (body : List ℕ). c_unpack_pixels Unknown header w h body [] []) [] [] (split_rest (header_from_byte_of byte) rle rest)).answer)
+    go : (rle : Bool) (rest : List ℕ) → SFits w64 (c_number (unpack_split (λ (header : BitmapStreamHeader) (body : List ℕ). c_unpack_pixels None header w h body [] []) [] [] (split_rest (header_from_byte_of byte) rle rest)).answer)
     go true rest = unknown_fits w h
     go false [] = refusal_fits 14 (omega arith)
     go false (b ∷ rest) = unknown_fits w h

@@ -1,6 +1,6 @@
 -- Examples of what the numbers of a C call mean, worked out by hand: one constant list, what the definitions compute for each, and what is
 -- expected. proofs/Examples.antt has the one proof.
-use Rattle.std.specs.Prelude.{ℕ, Bool, true, false, List, [], ◌∷◌, length, ℤ, pos, negsuc}
+use Rattle.std.specs.Prelude.{ℕ, Bool, true, false, List, [], ◌∷◌, length, ℤ, pos, negsuc, Option, Some, None}
 use Rattle.rle_format.specs.Answer.{Answer, counted, refused, Outcome}
 use Rattle.pixel_format.specs.declared.PixelLayout.TheVariants.{BgrA, RgbA, ARgb, ABgr}
 use Rattle.bitmap_format.specs.declared.BitmapStreamHeader.{BitmapStreamHeader}
@@ -8,8 +8,7 @@ use Rattle.bitmap_format.specs.declared.ColorPlaneDefinition.TheVariants.{Argb, 
 use Rattle.bitmap_format.specs.Examples as pictures
 use Rattle.bitmap_format.specs.Picture.{PictureOutcome}
 use Rattle.bitmap_format.specs.Stream.{StreamOutcome}
-use Rattle.rdp6.specs.declared.CLayout.{CLayout}
-use Rattle.rdp6.specs.declared.CLayout.TheVariants.{Known, Unknown}
+use Rattle.pixel_format.specs.declared.PixelLayout.{PixelLayout}
 use Rattle.rdp6.specs.Number.{c_number}
 use Rattle.rdp6.specs.Header.{c_header}
 use Rattle.rdp6.specs.Layout.{c_layout, unknown_layout, c_pack_pixels, c_pack_pixels_stream, c_unpack_pixels, c_unpack_pixel_stream}
@@ -20,7 +19,7 @@ pub data Example : Type 0 where
   -- an answer, and the number that a C function returns
   returns : Answer → ℤ → Example
   -- a number, and the layout that it means
-  means : (number : ℕ) → CLayout → Example
+  means : (number : ℕ) → Option PixelLayout → Example
   -- the sides, and the answer of a call with an unknown layout
   refuses : (width height : ℕ) → Answer → Example
   -- the number of a layout, and pixels that are packed into a body, or into a stream
@@ -34,7 +33,7 @@ pub data Example : Type 0 where
 pub data Meaning : Type 0 where
   header : BitmapStreamHeader → Meaning
   number : ℤ → Meaning
-  layout : CLayout → Meaning
+  layout : Option PixelLayout → Meaning
   answer : Answer → Meaning
   body : Outcome → Meaning
   stream : StreamOutcome → Meaning
@@ -88,13 +87,13 @@ examples =
     ∷ takes false false 2 3 false (pictures.header false false (AYCoCg 0 false))
     ∷ returns (counted 5) (pos 5)
     ∷ returns (refused 7) (negsuc 6)
-    ∷ means 0 (Known BgrA)
-    ∷ means 1 (Known RgbA)
-    ∷ means 2 (Known ARgb)
-    ∷ means 3 (Known ABgr)
-    ∷ means 4 Unknown
-    ∷ means 256 Unknown
-    ∷ means 4294967295 Unknown
+    ∷ means 0 (Some BgrA)
+    ∷ means 1 (Some RgbA)
+    ∷ means 2 (Some ARgb)
+    ∷ means 3 (Some ABgr)
+    ∷ means 4 None
+    ∷ means 256 None
+    ∷ means 4294967295 None
     ∷ refuses 0 8193 (refused 1)
     ∷ refuses 8193 0 (refused 1)
     ∷ refuses 8193 1 (refused 2)

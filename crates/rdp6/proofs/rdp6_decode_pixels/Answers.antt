@@ -1,10 +1,10 @@
 -- `rdp6_decode_pixels`: a picture that was written has few bytes.
 use Rattle.std.proofs.Common.{sym, ap, ◌∙◌}
-use Rattle.bitmap_format.specs.Picture.{decoded_to_answer}
+use Rattle.rle_format.specs.Answer.{to_answer}
 use Rattle.bitmap_format.proofs.Picture.{image_count_max}
 use Rattle.rdp6.proofs.rdp6_decode_pixels.Goals as goal
 
-pub decoded_number-requires : goal.decoded_number-requires
-decoded_number-requires c n e =
+pub answer_number-requires : goal.answer_number-requires
+answer_number-requires c n e =
     let a = c.args in
-    image_count_max _ c.header_of-picture_header.result a.width a.height a.body.now a.work.now a.image.now n (sym c.decode_pixels.ensures.answer ∙ ap decoded_to_answer e)
+    image_count_max _ c.header_of-picture_header.result a.width a.height a.body.now a.work.now a.image.now n (sym c.decode_pixels.ensures.answer ∙ ap to_answer e)

@@ -4,7 +4,7 @@ use Rattle.rle_format.specs.Answer.{to_answer}
 use Rattle.rle_format.proofs.Plane.{read_count_max}
 use Rattle.rdp6.proofs.rdp6_decompress_8bpp_plane.Goals as goal
 
-pub unpacked_number-requires : goal.unpacked_number-requires
-unpacked_number-requires c n e =
+pub answer_number-requires : goal.answer_number-requires
+answer_number-requires c n e =
     let a = c.args in
     read_count_max a.width a.height (length a.dst.now) a.src.now n (sym c.decompress_8bpp_plane.ensures.answer ∙ ap to_answer e)

@@ -1,6 +1,7 @@
 -- `rdp6_stream_decode_pixels`: a picture that was written has few bytes; an unknown layout changes nothing.
 use Rattle.std.proofs.Common.{sym, ap, ◌∙◌}
-use Rattle.bitmap_format.specs.Picture.{PictureOutcome, decoded_to_answer}
+use Rattle.rle_format.specs.Answer.{to_answer}
+use Rattle.bitmap_format.specs.Picture.{PictureOutcome}
 use Rattle.bitmap_format.proofs.StreamCounts.{stream_image_count_max}
 use Rattle.rdp6.proofs.Layouts.{unknown_stream_by, unknown_stream_fits}
 use Rattle.rdp6.proofs.Numbers.{read_back}
@@ -9,21 +10,21 @@ use Rattle.rdp6.proofs.rdp6_stream_decode_pixels.Goals as goal
 pub returns-in_default-clause-answer : goal.returns-in_default-clause-answer
 returns-in_default-clause-answer c =
     let a = c.args in
-    let o = unknown_stream_by a.width a.height a.stream.now a.work.now a.image.now _ (sym c.layout_of-known.ensures ∙ c.in_default.is) in
+    let o = unknown_stream_by a.width a.height a.stream.now a.work.now a.image.now _ (sym c.layout_of.ensures ∙ c.in_default.is) in
     let n = c.stream_layout_refusal in
     read_back n.result _ _ (unknown_stream_fits a.width a.height a.stream.now) n.ensures (ap (λ (x : PictureOutcome). x.answer) o)
 
 pub returns-in_default-clause-work : goal.returns-in_default-clause-work
 returns-in_default-clause-work c =
     let a = c.args in
-    ap (λ (x : PictureOutcome). x.work) (unknown_stream_by a.width a.height a.stream.now a.work.now a.image.now _ (sym c.layout_of-known.ensures ∙ c.in_default.is))
+    ap (λ (x : PictureOutcome). x.work) (unknown_stream_by a.width a.height a.stream.now a.work.now a.image.now _ (sym c.layout_of.ensures ∙ c.in_default.is))
 
 pub returns-in_default-clause-image : goal.returns-in_default-clause-image
 returns-in_default-clause-image c =
     let a = c.args in
-    ap (λ (x : PictureOutcome). x.image) (unknown_stream_by a.width a.height a.stream.now a.work.now a.image.now _ (sym c.layout_of-known.ensures ∙ c.in_default.is))
+    ap (λ (x : PictureOutcome). x.image) (unknown_stream_by a.width a.height a.stream.now a.work.now a.image.now _ (sym c.layout_of.ensures ∙ c.in_default.is))
 
-pub decoded_number-requires : goal.decoded_number-requires
-decoded_number-requires c n e =
+pub answer_number-requires : goal.answer_number-requires
+answer_number-requires c n e =
     let a = c.args in
-    stream_image_count_max _ a.width a.height a.stream.now a.work.now a.image.now n (sym c.decode_bitmap_stream_to_pixels.ensures.answer ∙ ap decoded_to_answer e)
+    stream_image_count_max _ a.width a.height a.stream.now a.work.now a.image.now n (sym c.decode_bitmap_stream_to_pixels.ensures.answer ∙ ap to_answer e)
