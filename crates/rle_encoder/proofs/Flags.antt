@@ -1,10 +1,11 @@
 -- What a word of eight flags says of them, and four words at a time; the flags of a row, made one by one.
-use Rattle.std.proofs.Common.{◌≡◌, ℕ, zero, suc, ◌+◌, ◌-◌, ◌*◌, ◌/◌, ◌<◌, ◌≤◌, Bool, true, false, ◌&&◌, eqb, List, length, get_or, set, sym, refl, ap, ◌∙◌, ⊎_elim, arith, get_or-set_other, get_or-set_same, eq-eqb, ne_eqb}
+use Rattle.std.proofs.Common.{◌≡◌, ℕ, zero, suc, ◌+◌, ◌-◌, ◌/◌, ◌<◌, ◌≤◌, Bool, true, false, ◌&&◌, eqb, List, ◌++◌, length, get_or, set, take, replicate, length-take-le, get_or-take, sym, refl, ap, ◌∙◌, ⊎_elim, arith, get_or-set_other, get_or-set_same, eq-eqb, ne_eqb}
+use Rattle.std.proofs.lemmas.List.{get_or_append_left, get_or-append_right, get_or-replicate, length-replicate}
 use lib.Count.{count_trailing_zeros}
 use Rattle.rle_format.specs.Choice.{choose}
 use Rattle.rle_format.proofs.Cases.{le_or_gt, eq_or_ne}
-use Rattle.rle_encoder.specs.RunFlags.{four_equal_of, flag_at, Flagged, AllAre, Bits, word_of, eight_at, flag_word}
-use Rattle.rle_encoder.proofs.Words.{First, lowest_first, none_set, flipped, flipped_at, flipped_word}
+use Rattle.rle_encoder.specs.RunFlags.{four_equal_of, flag_at, Flagged, AllAre, Bits, word_of, eight_at, flag_word, OthersWord}
+use Rattle.rle_encoder.proofs.Words.{First, lowest_first, none_set, others_of, length_others, others_at, others_bits, others_word, word_at_most, bits as bits_of}
 
 -- ---- flags that are all the same
 
@@ -20,12 +21,6 @@ all_both v flags from mid to one two j h l = ⊎_elim (λ (k : mid ≤ j). two j
 -- the first flag from `at` on that is not v is t further, and is o
 abbrev pub Found : (v o : ℕ) (flags : List ℕ) (at t : ℕ) → Type 0
 Found v o flags at t = (t ≤ 7) × AllAre v flags at (at + t) × (get_or flags (at + t) 0 ≡ o)
-
-what_is_left : (all w a b : ℕ) → w ≡ a → a + b ≡ all → all - w ≡ b
-what_is_left all w a b e s = omega arith
-
-some_left : (a b : ℕ) → a ≡ b → (a ≡ 0 → ⊥) → 0 < b
-some_left a b e h = omega arith
 
 module _ (flags : List ℕ) (at : ℕ) where
   eight : (j : ℕ) → j < 8 → get_or (eight_at flags at) j 0 ≡ get_or flags (at + j) 0
@@ -45,112 +40,64 @@ module _ (flags : List ℕ) (at : ℕ) where
       let e : at + (j - at) ≡ j = omega arith in
       ap (λ (k : ℕ). get_or flags k 0) (sym e) ∙ sym (eight (j - at) (omega arith)) ∙ h (j - at) (omega arith)
 
-  module _ (from n : ℕ) (known : Bits flags from n) (behind : from ≤ at) (near : at + 8 ≤ n) where
+  module _ (known : Bits flags at (at + 8)) where
     bits : Bits (eight_at flags at) 0 8
     bits j f l = rw (eight j l) (known (at + j) (omega arith) (omega arith))
 
-    sum : word_of (eight_at flags at) + word_of (flipped (eight_at flags at)) ≡ 0x0101010101010101
-    sum = flipped_word (eight_at flags at) bits
-
-    rest_of : (w : ℕ) → w ≡ word_of (eight_at flags at) → 0x0101010101010101 - w ≡ word_of (flipped (eight_at flags at))
-    rest_of w e = what_is_left 0x0101010101010101 w (word_of (eight_at flags at)) (word_of (flipped (eight_at flags at))) e sum
-
     pub word_most : (w : ℕ) → w ≡ flag_word flags at → w ≤ 0x0101010101010101
     unfolding flag_word
-    word_most w e = omega (arith, sum)
+    word_most w e = omega (arith, word_at_most (eight_at flags at) bits)
 
-    -- a word that is 0, and the first flag of another
-    pub word_none : (w : ℕ) → w ≡ flag_word flags at → w ≡ 0 → AllAre 0 flags at (at + 8)
-    unfolding flag_word
-    word_none w e z = eight_are 0 8 (omega arith) (none_set (eight_at flags at) (sym e ∙ z))
+    module _ (v w : ℕ) (small : v ≤ 1) (is : OthersWord v flags at w) where
+      word_is : w ≡ word_of (others_of v (eight_at flags at))
+      unfolding flag_word
+      word_is = others_word v small (eight_at flags at) bits w is
 
-    pub word_first : (w t : ℕ) → w ≡ flag_word flags at → (w ≡ 0 → ⊥) → t ≡ count_trailing_zeros 64 w / 8
-        → Found 0 1 flags at t
-    unfolding flag_word
-    word_first w t e z is =
-        let first : First (eight_at flags at) (count_trailing_zeros 64 (word_of (eight_at flags at)) / 8) = lowest_first (eight_at flags at) bits (omega arith) in
-        let place : t ≡ count_trailing_zeros 64 (word_of (eight_at flags at)) / 8 = is ∙ ap (λ (k : ℕ). count_trailing_zeros 64 k / 8) e in
-        found t (rw place first)
-      where
-        found : (t : ℕ) → First (eight_at flags at) t → Found 0 1 flags at t
-        found t f = (omega (arith, f.within), eight_are 0 t (omega (arith, f.within)) f.before, sym (eight t (omega (arith, f.within))) ∙ f.set)
+      at_each : (j : ℕ) → j < 8 → (get_or (others_of v (eight_at flags at)) j 0 ≤ 1) × (get_or (others_of v (eight_at flags at)) j 0 ≡ 0 → get_or (eight_at flags at) j 0 ≡ v) × (get_or (others_of v (eight_at flags at)) j 0 ≡ 1 → get_or (eight_at flags at) j 0 ≡ 1 - v)
+      at_each j l = others_at v small (eight_at flags at) bits j l
 
-    -- a word with all flags set, and the first that is clear in another
-    pub word_all : (w : ℕ) → w ≡ flag_word flags at → 0x0101010101010101 - w ≡ 0 → AllAre 1 flags at (at + 8)
-    unfolding flag_word
-    word_all w e z = eight_are 1 8 (omega arith) each
-      where
-        each : (j : ℕ) → j < 8 → get_or (eight_at flags at) j 0 ≡ 1
-        each j l =
-            let none : get_or (flipped (eight_at flags at)) j 0 ≡ 0 = none_set (flipped (eight_at flags at)) (sym (rest_of w e) ∙ z) j l in
-            omega (arith, none, flipped_at (eight_at flags at) j l, bits j (omega arith) l)
+      all_eight : length (others_of v (eight_at flags at)) ≡ 8
+      all_eight = length_others v small (eight_at flags at) bits
 
-    pub word_last : (w t : ℕ) → w ≡ flag_word flags at → (0x0101010101010101 - w ≡ 0 → ⊥) → t ≡ count_trailing_zeros 64 (0x0101010101010101 - w) / 8
-        → Found 1 0 flags at t
-    unfolding flag_word
-    word_last w t e z is =
-        let rest = rest_of w e in
-        let first : First (flipped (eight_at flags at)) (count_trailing_zeros 64 (word_of (flipped (eight_at flags at))) / 8) =
-        lowest_first (flipped (eight_at flags at)) (λ j f l. rw (flipped_at (eight_at flags at) j l) (omega arith)) (some_left (0x0101010101010101 - w) (word_of (flipped (eight_at flags at))) rest z) in
-        let place : t ≡ count_trailing_zeros 64 (word_of (flipped (eight_at flags at))) / 8 = is ∙ ap (λ (k : ℕ). count_trailing_zeros 64 k / 8) rest in
-        found t (rw place first)
-      where
-        one : (j : ℕ) → j < 8 → get_or (flipped (eight_at flags at)) j 0 ≡ 0 → get_or (eight_at flags at) j 0 ≡ 1
-        one j l none = omega (arith, none, flipped_at (eight_at flags at) j l, bits j (omega arith) l)
+      -- a word that is 0
+      pub word_none : w ≡ 0 → AllAre v flags at (at + 8)
+      word_none z =
+          eight_are v 8 (omega arith)
+          (λ j l. (at_each j l).1 (none_set (others_of v (eight_at flags at)) (sym word_is ∙ z) j (omega (arith, all_eight))))
 
-        found : (t : ℕ) → First (flipped (eight_at flags at)) t → Found 1 0 flags at t
-        found t f =
-            let few : t < 8 = f.within in
-            let clear : get_or (eight_at flags at) t 0 ≡ 0 = omega (arith, f.set, flipped_at (eight_at flags at) t few) in
-            (omega arith, eight_are 1 t (omega arith) (λ j l. one j (omega arith) (f.before j l)), sym (eight t few) ∙ clear)
+      -- the first flag of another
+      pub word_first : (t : ℕ) → (w ≡ 0 → ⊥) → t ≡ count_trailing_zeros 64 w / 8 → Found v (1 - v) flags at t
+      word_first t z e =
+          let first : First (others_of v (eight_at flags at)) (count_trailing_zeros 64 (word_of (others_of v (eight_at flags at))) / 8) =
+          ap_bits (lowest_first (others_of v (eight_at flags at)) (others_bits v small (eight_at flags at) bits) (omega (arith, word_is))) in
+          let place : t ≡ count_trailing_zeros 64 (word_of (others_of v (eight_at flags at))) / 8 = e ∙ ap (λ (k : ℕ). count_trailing_zeros 64 k / 8) word_is in
+          found t (rw place first)
+        where
+          ap_bits : First (others_of v (eight_at flags at)) (count_trailing_zeros (bits_of (length (others_of v (eight_at flags at)))) (word_of (others_of v (eight_at flags at))) / 8) → First (others_of v (eight_at flags at)) (count_trailing_zeros 64 (word_of (others_of v (eight_at flags at))) / 8)
+          ap_bits f = rw all_eight at f
+
+          found : (t : ℕ) → First (others_of v (eight_at flags at)) t → Found v (1 - v) flags at t
+          found t f =
+              let few : t < 8 = omega (arith, f.within, all_eight) in
+              (omega arith, eight_are v t (omega arith) (λ j l. (at_each j (omega arith)).1 (f.before j l)), sym (eight t few) ∙ (at_each t few).2 f.set)
 
 -- ---- four words
 
--- four numbers whose sum is 0, and four whose sum is the greatest
+-- four numbers whose sum is 0
 all_zero : (a b c d : ℕ) → a + b + c + d ≡ 0 → (a ≡ 0) × (b ≡ 0) × (c ≡ 0) × (d ≡ 0)
 all_zero a b c d e = (omega arith, omega arith, omega arith, omega arith)
 
-all_full : (a b c d all : ℕ) → a ≤ all → b ≤ all → c ≤ all → d ≤ all → a + b + c + d ≡ 4 * all → (all - a ≡ 0) × (all - b ≡ 0) × (all - c ≡ 0) × (all - d ≡ 0)
-all_full a b c d all ha hb hc hd e = (omega arith, omega arith, omega arith, omega arith)
+module _ (flags : List ℕ) (at : ℕ) (known : Bits flags at (at + 32)) (v : ℕ) (small : v ≤ 1) where
+  part : (k to : ℕ) → k ≤ 24 → at + k + 8 ≡ to → (w : ℕ) → OthersWord v flags (at + k) w → w ≡ 0 → AllAre v flags (at + k) to
+  part k to h e w is z = rw (← e) (word_none flags (at + k) (λ j f l. known j (omega arith) (omega arith)) v w small is z)
 
--- four words, each behind the one before
-all_four : (v : ℕ) (flags : List ℕ) (at : ℕ) → AllAre v flags at (at + 8) → AllAre v flags (at + 8) (at + 16) → AllAre v flags (at + 16) (at + 24) → AllAre v flags (at + 24) (at + 32)
-    → AllAre v flags at (at + 32)
-all_four v flags at one two three four =
-    all_both v flags at (at + 8) (at + 32) one (all_both v flags (at + 8) (at + 16) (at + 32) two (all_both v flags (at + 16) (at + 24) (at + 32) three four))
-
-module _ (flags : List ℕ) (from n at : ℕ) (known : Bits flags from n) (behind : from ≤ at) (near : at + 32 ≤ n) (a b c d : ℕ) (ea : a ≡ flag_word flags at)
-    (eb : b ≡ flag_word flags (at + 8)) (ec : c ≡ flag_word flags (at + 16)) (ed : d ≡ flag_word flags (at + 24)) where
-  after : (k : ℕ) → from ≤ at + k
-  after k = omega arith
-
-  within : (k : ℕ) → k ≤ 24 → at + k + 8 ≤ n
-  within k h = omega arith
-
-  moved : (v k to : ℕ) → at + k + 8 ≡ to → AllAre v flags (at + k) (at + k + 8) → AllAre v flags (at + k) to
-  moved v k to e all = rw (← e) all
-
-  pub four_words_none : a + b + c + d ≡ 0 → AllAre 0 flags at (at + 32)
-  four_words_none sum =
+  pub four_words_none : (a b c d : ℕ) → OthersWord v flags at a → OthersWord v flags (at + 8) b → OthersWord v flags (at + 16) c → OthersWord v flags (at + 24) d → a + b + c + d ≡ 0
+      → AllAre v flags at (at + 32)
+  four_words_none a b c d ea eb ec ed sum =
       let none = all_zero a b c d sum in
-      all_four 0 flags at
-      (word_none flags at from n known behind (omega arith) a ea none.0)
-      (moved 0 8 (at + 16) (omega arith) (word_none flags (at + 8) from n known (after 8) (within 8 (omega arith)) b eb none.1))
-      (moved 0 16 (at + 24) (omega arith) (word_none flags (at + 16) from n known (after 16) (within 16 (omega arith)) c ec none.2))
-      (moved 0 24 (at + 32) (omega arith) (word_none flags (at + 24) from n known (after 24) (within 24 (omega arith)) d ed none.3))
-
-  -- no word is greater than that of flags that are all set
-  most : (k w : ℕ) → k ≤ 24 → w ≡ flag_word flags (at + k) → w ≤ 0x0101010101010101
-  most k w h e = word_most flags (at + k) from n known (after k) (within k h) w e
-
-  pub four_words_all : a + b + c + d ≡ 0x0404040404040404 → AllAre 1 flags at (at + 32)
-  four_words_all sum =
-      let full = all_full a b c d 0x0101010101010101 (word_most flags at from n known behind (omega arith) a ea) (most 8 b (omega arith) eb) (most 16 c (omega arith) ec) (most 24 d (omega arith) ed) sum in
-      all_four 1 flags at
-      (word_all flags at from n known behind (omega arith) a ea full.0)
-      (moved 1 8 (at + 16) (omega arith) (word_all flags (at + 8) from n known (after 8) (within 8 (omega arith)) b eb full.1))
-      (moved 1 16 (at + 24) (omega arith) (word_all flags (at + 16) from n known (after 16) (within 16 (omega arith)) c ec full.2))
-      (moved 1 24 (at + 32) (omega arith) (word_all flags (at + 24) from n known (after 24) (within 24 (omega arith)) d ed full.3))
+      all_both v flags at (at + 8) (at + 32) (word_none flags at (λ j f l. known j (omega arith) (omega arith)) v a small ea none.0)
+      (all_both v flags (at + 8) (at + 16) (at + 32) (part 8 (at + 16) (omega arith) (omega arith) b eb none.1)
+      (all_both v flags (at + 16) (at + 24) (at + 32) (part 16 (at + 24) (omega arith) (omega arith) c ec none.2) (part 24 (at + 32) (omega arith) (omega arith) d ed none.3)))
 
 -- ---- the flags of a row, one after the other
 
@@ -192,26 +139,22 @@ module _ (a b c d : ℕ) where
   unfolding four_equal_of
   four_clear e p q r = let z : ◌≡◌ {A = ℕ} 0 1 = sym e ∙ rw (eq-eqb a b (sym p), eq-eqb a c (sym q), eq-eqb a d (sym r)) in absurd (omega arith)
 
--- ---- the flags behind a row, which are cleared
+-- ---- the flags of a row, and the eight behind them, which are cleared
 
-pub cleared_more : (flags₀ flags : List ℕ) (at i : ℕ) → ((j : ℕ) → j < at → get_or flags j 0 ≡ get_or flags₀ j 0) → (j : ℕ) → j < at → get_or (set flags (at + i) 0) j 0 ≡ get_or flags₀ j 0
-cleared_more flags₀ flags at i same j h = get_or-set_other flags (at + i) j 0 0 (λ (e : j ≡ at + i). absurd (omega arith)) ∙ same j h
-
-pub all_clear_more : (flags : List ℕ) (at i : ℕ) → at + i < length flags → AllAre 0 flags at (at + i) → AllAre 0 (set flags (at + i) 0) at (at + (i + 1))
-all_clear_more flags at i l clear j h k =
+pub row_bits : (codes flags eight rest : List ℕ) (width k : ℕ) → Flagged codes flags 0 width → width ≤ length flags → k ≡ 8 → eight ≡ replicate k 0 → Bits (take width flags ++ (eight ++ rest)) 0 (width + 8)
+row_bits codes flags eight rest width k known long all clear j f h =
+    let n : length (take width flags) ≡ width = length-take-le width flags long in
+    let e : length eight ≡ 8 = ap length clear ∙ length-replicate k 0 ∙ all in
     ⊎_elim
-    (λ (m : at + i ≤ j). let e : j ≡ at + i = omega arith in rw e (get_or-set_same flags (at + i) 0 0 l))
-    (λ (m : j < at + i). get_or-set_other flags (at + i) j 0 0 (λ (e : j ≡ at + i). absurd (omega arith)) ∙ clear j h m)
-    (le_or_gt (at + i) j)
-
-module _ (codes flags now : List ℕ) (width : ℕ) (known : Flagged codes flags 0 width) (same : (j : ℕ) → j < width → get_or now j 0 ≡ get_or flags j 0)
-    (clear : AllAre 0 now width (width + 8)) where
-  pub flagged_still : Flagged codes now 0 width
-  flagged_still j f h = same j h ∙ known j f h
-
-  pub flagged_bits : Bits now 0 (width + 8)
-  flagged_bits j f h =
-      ⊎_elim
-      (λ (k : width ≤ j). rw (clear j k h) (omega arith))
-      (λ (k : j < width). rw (flagged_still j f k) (four_bit (get_or codes j 0) (get_or codes (j + 1) 0) (get_or codes (j + 2) 0) (get_or codes (j + 3) 0)))
-      (le_or_gt width j)
+    (λ (m : width ≤ j).
+    let at : get_or (take width flags ++ (eight ++ rest)) j 0 ≡ 0 =
+    get_or-append_right (take width flags) (eight ++ rest) width j 0 n m
+    ∙ get_or_append_left eight rest 0 (j - width) (omega arith)
+    ∙ ap (λ (l : List ℕ). get_or l (j - width) 0) clear
+    ∙ get_or-replicate k (j - width) 0 0 (omega arith) in
+    omega arith)
+    (λ (m : j < width).
+    let at : get_or (take width flags ++ (eight ++ rest)) j 0 ≡ flag_at codes j =
+    get_or_append_left (take width flags) (eight ++ rest) 0 j (omega arith) ∙ get_or-take width flags j 0 m ∙ known j f m in
+    omega (arith, four_bit (get_or codes j 0) (get_or codes (j + 1) 0) (get_or codes (j + 2) 0) (get_or codes (j + 3) 0)))
+    (le_or_gt width j)

@@ -1,7 +1,18 @@
 -- A word of flags. Its trailing zeros tell the first flag that is set; those of its complement, the first that is clear.
-use Rattle.std.proofs.Common.{◌≡◌, ℕ, zero, suc, ◌+◌, ◌-◌, ◌*◌, ◌/◌, ◌%◌, ◌<◌, List, [], ◌∷◌, length, get_or, replicate, refl, ap, ◌∙◌, arith}
+use Rattle.std.proofs.Common.{◌≡◌, ℕ, zero, suc, ◌+◌, ◌-◌, ◌*◌, ◌/◌, ◌%◌, ◌<◌, ◌≤◌, List, [], ◌∷◌, length, get_or, take, drop, replicate, get_or-take, get_or-drop, w64, refl, ap, ◌∙◌, arith}
 use lib.Count.{count_trailing_zeros}
-use Rattle.rle_encoder.specs.RunFlags.{Bits, word_of}
+use Rattle.std.specs.Int.{from_le_bytes}
+use Rattle.rle_encoder.specs.RunFlags.{Bits, word_of, flag_word}
+
+-- eight flags, read as an array
+pub eight_as_word : (flags bytes : List ℕ) (at : ℕ) → bytes ≡ take (at + 8 - at) (drop at flags) → from_le_bytes w64 bytes ≡ flag_word flags at
+unfolding flag_word
+eight_as_word flags bytes at e =
+    let each : (i : ℕ) → i < 8 → get_or bytes i 0 ≡ get_or flags (at + i) 0 =
+    λ i l. ap (λ (l : List ℕ). get_or l i 0) e ∙ get_or-take (at + 8 - at) (drop at flags) i 0 (omega arith) ∙ get_or-drop at flags i 0 in
+    let first : at + 0 ≡ at = omega arith in
+    let none : get_or bytes 0 0 ≡ get_or flags at 0 = each 0 (omega arith) ∙ ap (λ (k : ℕ). get_or flags k 0) first in
+    omega (arith, none, each 1 (omega arith), each 2 (omega arith), each 3 (omega arith), each 4 (omega arith), each 5 (omega arith), each 6 (omega arith), each 7 (omega arith))
 
 -- ---- trailing zeros
 
@@ -77,17 +88,61 @@ none_set [] e j l = absurd (omega arith)
 none_set (x ∷ xs) e zero l = omega arith
 none_set (x ∷ xs) e (suc j) l = none_set xs (omega arith) j (omega arith)
 
--- ---- the complement, which has set what is clear
+-- ---- the flags that are not v
 
 abbrev pub flipped : List ℕ → List ℕ
 flipped [] = []
 flipped (x ∷ xs) = (1 - x) ∷ flipped xs
 
-pub flipped_at : (xs : List ℕ) (j : ℕ) → j < length xs → get_or (flipped xs) j 0 ≡ 1 - get_or xs j 0
+flipped_at : (xs : List ℕ) (j : ℕ) → j < length xs → get_or (flipped xs) j 0 ≡ 1 - get_or xs j 0
 flipped_at [] j l = absurd (omega arith)
 flipped_at (x ∷ xs) zero l = refl
 flipped_at (x ∷ xs) (suc j) l = flipped_at xs j (omega arith)
 
-pub flipped_word : (xs : List ℕ) → Bits xs 0 (length xs) → word_of xs + word_of (flipped xs) ≡ word_of (replicate (length xs) 1)
+flipped_word : (xs : List ℕ) → Bits xs 0 (length xs) → word_of xs + word_of (flipped xs) ≡ word_of (replicate (length xs) 1)
 flipped_word [] h = refl
 flipped_word (x ∷ xs) h = omega (arith, h 0 (omega arith) (omega arith), flipped_word xs (λ j f l. h (suc j) (omega arith) (omega arith)))
+
+-- a 1 for each flag that is not v
+abbrev pub others_of : (v : ℕ) → List ℕ → List ℕ
+others_of zero xs = xs
+others_of (suc v) xs = flipped xs
+
+length_flipped : (xs : List ℕ) → length (flipped xs) ≡ length xs
+length_flipped [] = refl
+length_flipped (x ∷ xs) = ap suc (length_flipped xs)
+
+module _ (v : ℕ) (small : v ≤ 1) (xs : List ℕ) (known : Bits xs 0 (length xs)) where
+  pub length_others : length (others_of v xs) ≡ length xs
+  length_others = go v
+    where
+      go : (v : ℕ) → length (others_of v xs) ≡ length xs
+      go zero = refl
+      go (suc v) = length_flipped xs
+
+  -- which one is not v, and which is
+  pub others_at : (j : ℕ) → j < length xs → (get_or (others_of v xs) j 0 ≤ 1) × (get_or (others_of v xs) j 0 ≡ 0 → get_or xs j 0 ≡ v) × (get_or (others_of v xs) j 0 ≡ 1 → get_or xs j 0 ≡ 1 - v)
+  others_at j l = go v small
+    where
+      go : (v : ℕ) → v ≤ 1 → (get_or (others_of v xs) j 0 ≤ 1) × (get_or (others_of v xs) j 0 ≡ 0 → get_or xs j 0 ≡ v) × (get_or (others_of v xs) j 0 ≡ 1 → get_or xs j 0 ≡ 1 - v)
+      go zero s = (omega (arith, known j (omega arith) l), λ e. e, λ e. e)
+      go (suc zero) s =
+          let f = flipped_at xs j l in
+          let b = known j (omega arith) l in
+          (omega arith, λ e. omega arith, λ e. omega arith)
+      go (suc (suc v)) s = absurd (omega arith)
+
+  pub others_bits : Bits (others_of v xs) 0 (length (others_of v xs))
+  others_bits j f l = (others_at j (omega (arith, length_others))).0
+
+  pub others_word : (w : ℕ) → (v ≡ 0 → w ≡ word_of xs) × (v ≡ 1 → w + word_of xs ≡ word_of (replicate (length xs) 1)) → w ≡ word_of (others_of v xs)
+  others_word w is = go v small is
+    where
+      go : (v : ℕ) → v ≤ 1 → (v ≡ 0 → w ≡ word_of xs) × (v ≡ 1 → w + word_of xs ≡ word_of (replicate (length xs) 1)) → w ≡ word_of (others_of v xs)
+      go zero s is = is.0 refl
+      go (suc zero) s is = omega (arith, is.1 refl, flipped_word xs known)
+      go (suc (suc v)) s is = absurd (omega arith)
+
+-- no word is greater than that of flags that are all set
+pub word_at_most : (xs : List ℕ) → Bits xs 0 (length xs) → word_of xs ≤ word_of (replicate (length xs) 1)
+word_at_most xs known = omega (arith, flipped_word xs known)

@@ -44,3 +44,7 @@ eight_at flags at =
 -- these eight flags as one word
 unfoldable pub flag_word : (flags : List ℕ) (at : ℕ) → ℕ
 flag_word flags at = word_of (eight_at flags at)
+
+-- a word that has a 1 for each of these eight that is not v, where v is 0 or 1
+abbrev pub OthersWord : (v : ℕ) (flags : List ℕ) (at w : ℕ) → Type 0
+OthersWord v flags at w = (v ≡ 0 → w ≡ flag_word flags at) × (v ≡ 1 → w + flag_word flags at ≡ 0x0101010101010101)

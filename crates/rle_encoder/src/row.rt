@@ -1,7 +1,7 @@
 // Packs one row by way of an array with room for it, whatever its values are: no segment is tested for room, and the row reaches the destination
 // with one copy. A row that does not fit is packed again by rle_scanline_encoder, which writes the segments that fit. So is a short row: that is
 // faster than to make its flags.
-ghost use Rattle.std.specs.Prelude.{◌≡◌, ◌+◌, ◌*◌, ◌/◌, ◌≤◌, min, length, take, drop};
+ghost use Rattle.std.specs.Prelude.{◌≡◌, ◌+◌, ◌*◌, ◌/◌, ◌≤◌, length, take, drop};
 ghost use Rattle.rle_format.specs.Answer.{to_answer};
 ghost use Rattle.rle_format.specs.Segment.{segments_bytes};
 ghost use Rattle.rle_format.specs.Pack.{row_segments};
@@ -9,19 +9,13 @@ ghost use Rattle.rle_format.specs.Written.{answer_at, slice_at};
 ghost use Rattle.rle_encoder.specs.RunFlags.{Flagged, Bits};
 ghost use Rattle.rle_encoder.specs.Put.{Put};
 
-use crate::runs::{flag_runs, next_clear, next_set};
+use crate::runs::{flag_runs, next_other};
 use crate::segment::put_segment;
 use rle_format::Refusal;
 use rle_scanline_encoder::encode_scanline;
 
 // The width up to which a row is packed segment by segment.
 const SHORT_ROW: usize = 32;
-
-fn least(a: usize, b: usize) -> usize
-    ensures { result ≡ min a b }
-{
-    if a < b { a } else { b }
-}
 
 // The index in the array where the flags of a row begin. The segments of the first i values, the last with a run, take at most i + i / 15 bytes.
 // So they, and the 16 bytes behind them, end before flag i: no flag is overwritten before it is read.
@@ -42,11 +36,11 @@ fn put_row(codes: &[u8], width: usize, packed: &mut [u8]) -> usize
     let mut i = 0;
     let mut to = 0;
     while i < width {
-        let run = next_set(&packed[flags..], i, width);
+        let run = next_other::<0>(&packed[flags..], i, width);
         if width <= run + 3 {
             return put_segment(&codes[i..], width - i, 0, packed, to);
         }
-        let end = least(next_clear(&packed[flags..], run, width) + 3, width);
+        let end = (next_other::<1>(&packed[flags..], run, width) + 3).min(width);
         to = put_segment(&codes[i..], run + 1 - i, end - run - 1, packed, to);
         i = end;
     }

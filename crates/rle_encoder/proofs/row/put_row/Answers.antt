@@ -23,7 +23,7 @@ pub put_segment-requires : goal.put_segment-requires
 put_segment-requires c =
     let a = c.args in
     let l = c.loop-i in
-    let set = c.next_set-run in
+    let set = c.next_other-run in
     let flags = suffix l.packed c.flags_start-flags.result in
     let head = put_rest l.invariant.6 (split_segments (take (a.width - l.i) (suffix a.codes.now l.i)) 0)
     (lent_raw a.codes.now a.width (omega arith) flags l.i l.invariant.4 set.result (omega arith) set.ensures.2 (omega arith)) in
@@ -33,7 +33,7 @@ pub returns-then-width-run : goal.returns-then-width-run
 returns-then-width-run c =
     let a = c.args in
     let l = c.loop-i in
-    let set = c.next_set-run in
+    let set = c.next_other-run in
     let flags = suffix l.packed c.flags_start-flags.result in
     let head = put_rest l.invariant.6 (split_segments (take (a.width - l.i) (suffix a.codes.now l.i)) 0)
     (lent_raw a.codes.now a.width (omega arith) flags l.i l.invariant.4 set.result (omega arith) set.ensures.2 (omega arith)) in
@@ -43,9 +43,9 @@ pub put_segment-to-requires : goal.put_segment-to-requires
 put_segment-to-requires c =
     let a = c.args in
     let l = c.loop-i in
-    let set = c.next_set-run in
-    let clear = c.next_clear in
-    let end = c.least-end in
+    let set = c.next_other-run in
+    let clear = c.next_other in
+    let end = c.min-end in
     let flags = suffix l.packed c.flags_start-flags.result in
     let raw = take (set.result + 1 - l.i) (suffix a.codes.now l.i) in
     let rest = row_segments (drop end.result (take a.width a.codes.now)) in
@@ -57,9 +57,9 @@ pub loop-i-preserved : goal.loop-i-preserved
 loop-i-preserved c =
     let a = c.args in
     let l = c.loop-i in
-    let set = c.next_set-run in
-    let clear = c.next_clear in
-    let end = c.least-end in
+    let set = c.next_other-run in
+    let clear = c.next_other in
+    let end = c.min-end in
     let call = c.put_segment-to in
     let now = call.new.packed in
     let start = c.flags_start-flags.result in
