@@ -9,6 +9,7 @@ pub mod Image
 pub mod UnpackPlanes
 pub mod PictureChecks
 pub mod UnpackPicture
+pub mod CheckedPicture
 pub mod Pixels
 pub mod PlanesAlike
 pub mod AlphaKept

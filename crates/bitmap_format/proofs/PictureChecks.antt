@@ -1,13 +1,13 @@
 -- The checks of a picture, one after the other, and what is known once all pass.
 use Prim.Native.Nat.{ℕ, ◌≤◌, ◌<◌}
-use mathlib.Core.Bool.{true, false}
+use mathlib.Core.Bool.{false}
 use mathlib.Core.Path.{◌≡◌, sym, ap, ◌∙◌}
 use mathlib.Core.List.{List, [], ◌∷◌}
 use lib.Dec.{ltb}
 use borrow.Author.Tests.{lt-ltb, le-ltb, ltb-false}
 use Rattle.rle_format.specs.Answer.{Answer, counted, refused}
-use Rattle.rle_format.specs.Sides.{AllowedSides}
-use Rattle.rle_format.proofs.Sides.{allowed_sides}
+use Rattle.rle_format.specs.Sides.{check_sides_of, AllowedSides}
+use Rattle.rle_format.proofs.Sides.{allowed_sides, check_sides_passes}
 use Rattle.bitmap_format.specs.declared.BitmapStreamHeader.{BitmapStreamHeader}
 use Rattle.bitmap_format.specs.Pixels.{PixelForm}
 use Rattle.bitmap_format.specs.Checks.{Check, check, first_refusal_of}
@@ -15,7 +15,7 @@ use Rattle.bitmap_format.specs.Sizes.{min_body_size_of, work_size_of, image_size
 use Rattle.bitmap_format.specs.Picture.{is_loss_level_invalid_of, picture_checks, check_picture}
 use Rattle.bitmap_format.proofs.Checks.{check_refuses, check_passes, no_checks, sides_passed, check_passed}
 
--- ---- the checks after those of the sides, one after the other
+-- ---- the checks after those of the sides
 
 module _ (form : PixelForm) (header : BitmapStreamHeader) (w h body work image : ℕ) where
   abbrev checks_after_sides : Answer
@@ -34,34 +34,49 @@ module _ (form : PixelForm) (header : BitmapStreamHeader) (w h body work image :
   abbrev passed_answer : Answer
   passed_answer = counted (image_size_of form w h)
 
-  pub loss_refused : is_loss_level_invalid_of header.color_plane_definition ≡ true → checks_after_sides ≡ refused 3
-  loss_refused e = check_refuses _ checks_from_body passed_answer e
+-- ---- the checks after refusals 1 to 3, one after the other, with the minimum sizes as the code computes them
 
-  module _ (hl : is_loss_level_invalid_of header.color_plane_definition ≡ false) where
-    loss_passed : checks_after_sides ≡ first_refusal_of checks_from_body passed_answer
-    loss_passed = check_passes _ checks_from_body passed_answer hl
+module _ (form : PixelForm) (header : BitmapStreamHeader) (w h body work image : ℕ) (passed_3 : AllowedSides w h × (is_loss_level_invalid_of header.color_plane_definition ≡ false)) where
+  abbrev checks : Answer
+  checks = check_picture form header w h body work image
 
-    -- the minimum sizes, as the code has computed them
-    module _ (min-body : ℕ) (eb : min-body ≡ min_body_size_of header w h) where
-      pub body_refused : body < min-body → checks_after_sides ≡ refused 4
-      body_refused l = loss_passed ∙ check_refuses _ checks_from_work passed_answer (lt-ltb body (min_body_size_of header w h) (rw eb at l))
+  abbrev passed : Answer
+  passed = passed_answer form header w h body work image
 
-      module _ (lb : min-body ≤ body) (min-work : ℕ) (ek : min-work ≡ work_size_of form header w h) where
-        body_passed : checks_after_sides ≡ first_refusal_of checks_from_work passed_answer
-        body_passed = loss_passed ∙ check_passes _ checks_from_work passed_answer (le-ltb body (min_body_size_of header w h) (rw eb at lb))
+  abbrev from_work : List Check
+  from_work = checks_from_work form header w h body work image
 
-        pub work_refused : work < min-work → checks_after_sides ≡ refused 5
-        work_refused l = body_passed ∙ check_refuses _ checks_from_image passed_answer (lt-ltb work (work_size_of form header w h) (rw ek at l))
+  abbrev from_image : List Check
+  from_image = checks_from_image form header w h body work image
 
-        module _ (lk : min-work ≤ work) (min-image : ℕ) (ei : min-image ≡ image_size_of form w h) where
-          work_passed : checks_after_sides ≡ first_refusal_of checks_from_image passed_answer
-          work_passed = body_passed ∙ check_passes _ checks_from_image passed_answer (le-ltb work (work_size_of form header w h) (rw ek at lk))
+  -- a size of sides that pass is not 0
+  size_is : (n m : ℕ) → n ≡ check_sides_of (λ (_ : ℕ). 0) w h m → n ≡ m
+  size_is n m e = e ∙ check_sides_passes (λ (_ : ℕ). 0) w h m passed_3.0
 
-          pub image_refused : image < min-image → checks_after_sides ≡ refused 6
-          image_refused l = work_passed ∙ check_refuses _ [] passed_answer (lt-ltb image (image_size_of form w h) (rw ei at l))
+  level_passed : checks ≡ first_refusal_of (checks_from_body form header w h body work image) passed
+  unfolding check_picture
+  level_passed = check_sides_passes refused w h (checks_after_sides form header w h body work image) passed_3.0 ∙ check_passes _ (checks_from_body form header w h body work image) passed passed_3.1
 
-          pub all_passed : min-image ≤ image → counted min-image ≡ checks_after_sides
-          all_passed l = ap counted ei ∙ sym (work_passed ∙ check_passes _ [] passed_answer (le-ltb image (image_size_of form w h) (rw ei at l)) ∙ no_checks passed_answer)
+  module _ (min_body : ℕ) (eb : min_body ≡ check_sides_of (λ (_ : ℕ). 0) w h (min_body_size_of header w h)) where
+    pub body_refused : body < min_body → refused 4 ≡ checks
+    body_refused l = sym (level_passed ∙ check_refuses _ from_work passed (lt-ltb body (min_body_size_of header w h) (rw (size_is _ _ eb) at l)))
+
+    module _ (lb : min_body ≤ body) (min_work : ℕ) (ek : min_work ≡ check_sides_of (λ (_ : ℕ). 0) w h (work_size_of form header w h)) where
+      body_passed : checks ≡ first_refusal_of from_work passed
+      body_passed = level_passed ∙ check_passes _ from_work passed (le-ltb body (min_body_size_of header w h) (rw (size_is _ _ eb) at lb))
+
+      pub work_refused : work < min_work → refused 5 ≡ checks
+      work_refused l = sym (body_passed ∙ check_refuses _ from_image passed (lt-ltb work (work_size_of form header w h) (rw (size_is _ _ ek) at l)))
+
+      module _ (lk : min_work ≤ work) (min_image : ℕ) (ei : min_image ≡ check_sides_of (λ (_ : ℕ). 0) w h (image_size_of form w h)) where
+        work_passed : checks ≡ first_refusal_of from_image passed
+        work_passed = body_passed ∙ check_passes _ from_image passed (le-ltb work (work_size_of form header w h) (rw (size_is _ _ ek) at lk))
+
+        pub image_refused : image < min_image → refused 6 ≡ checks
+        image_refused l = sym (work_passed ∙ check_refuses _ [] passed (lt-ltb image (image_size_of form w h) (rw (size_is _ _ ei) at l)))
+
+        pub all_passed : min_image ≤ image → counted min_image ≡ checks
+        all_passed l = ap counted (size_is _ _ ei) ∙ sym (work_passed ∙ check_passes _ [] passed (le-ltb image (image_size_of form w h) (rw (size_is _ _ ei) at l)) ∙ no_checks passed)
 
 -- ---- what is known of the slices once all checks passed
 pub record ChecksPassed (form : PixelForm) (header : BitmapStreamHeader) (w h body work image n : ℕ) : Type 0 where
