@@ -8,9 +8,9 @@ use mathlib.Core.Option.{none}
 use native.Mathlib.Nat.{mul-le-mul}
 use native.Mathlib.Omega.{arith}
 use lib.ListN.{length, drop, length-take, length-drop}
+use Rattle.std.specs.Prelude.{Result, Ok, Err}
+use Rattle.std.specs.Result.{IsErrAnd}
 use Rattle.rle_format.specs.declared.Refusal.{Refusal}
-use Rattle.rle_format.specs.declared.Unpacked.{Unpacked}
-use Rattle.rle_format.specs.declared.Unpacked.TheVariants.{Read, Refused}
 use Rattle.rle_format.specs.Answer.{Answer, counted, refused, Outcome, stop, refuse, add_count, number, to_answer}
 use Rattle.rle_format.specs.Slice.{overwrite, write_at}
 use Rattle.rle_format.specs.Unpack.{unpack_rows, unpack_plane}
@@ -21,6 +21,7 @@ use Rattle.rle_format.proofs.Slice.{suffix, replace_suffix, suffix_drop, suffix_
 use Rattle.bitmap_format.specs.declared.BitmapStreamHeader.{BitmapStreamHeader}
 use Rattle.bitmap_format.specs.Planes.{PlaneAt, plane_at, subsampled, chroma_side_of, first_plane, second_plane, third_plane, colour_planes, alpha_planes_at, planes_with_alpha_at}
 use Rattle.bitmap_format.specs.UnpackPlanes.{PlanesOutcome, unpack_plane_at, add_read, unpack_planes}
+use Rattle.bitmap_format.proofs.Answer.{passed_up}
 use Rattle.bitmap_format.proofs.UnpackPlanes.{PlanesInvariant, planes_start, planes_step, planes_refusal, planes_last, planes_append, planes_append_refused, read_within, add_read_0}
 
 -- ---- a plane that was read, and one without room
@@ -77,11 +78,11 @@ nothing_without_room w h body =
 -- ---- decompress_next_plane: it starts at `start`, the lesser of the offset and the end of the work area; ys is what the plane unpacker left there
 
 -- what a function that unpacks a plane from `at` of the body on shows: its answer r, which counts the bytes before, and the work area
-abbrev pub PlaneRead : (p : PlaneAt) (body work after : List ℕ) (at : ℕ) (r : Unpacked) → Type 0
+abbrev pub PlaneRead : (p : PlaneAt) (body work after : List ℕ) (at : ℕ) (r : Result ℕ Refusal) → Type 0
 PlaneRead p body work after at r =
     (to_answer r ≡ add_count at (unpack_plane_at p work (drop at body)).answer) × (after ≡ write_at work p.offset (unpack_plane_at p work (drop at body)).written)
 
-module _ (body work ys : List ℕ) (at offset start width height : ℕ) (starts : start ≡ min offset (length work)) (r : Unpacked)
+module _ (body work ys : List ℕ) (at offset start width height : ℕ) (starts : start ≡ min offset (length work)) (r : Result ℕ Refusal)
     (said : to_answer r ≡ (unpack_plane width height (length (suffix work start)) (suffix body at)).answer)
     (wrote : ys ≡ overwrite (suffix work start) (unpack_plane width height (length (suffix work start)) (suffix body at)).written) where
   same : unpack_plane width height (length (suffix work start)) (suffix body at) ≡ unpack_plane_at (plane_at width height offset) work (drop at body)
@@ -109,20 +110,20 @@ module _ (body work ys : List ℕ) (at offset start width height : ℕ) (starts 
   answer : to_answer r ≡ (unpack_plane_at (plane_at width height offset) work (drop at body)).answer
   answer = said ∙ ap (λ (o : Outcome). o.answer) same
 
-  pub next_refused : (q : Refusal) → r ≡ Refused q → PlaneRead (plane_at width height offset) body work (replace_suffix work start ys) at r
-  next_refused q e = (ap to_answer e ∙ ap (add_count at) (sym (ap to_answer e) ∙ answer), suffix_is_plane)
+  pub next_refused : (q : Refusal) → r ≡ Err q → (up : Result ℕ Refusal) → IsErrAnd up (λ (k : Refusal). k ≡ q) → PlaneRead (plane_at width height offset) body work (replace_suffix work start ys) at up
+  next_refused q e up is = (passed_up up q is ∙ ap (add_count at) (sym (ap to_answer e) ∙ answer), suffix_is_plane)
 
-  pub next_read : (n : ℕ) → r ≡ Read n → PlaneRead (plane_at width height offset) body work (replace_suffix work start ys) at (Read (at + n))
+  pub next_read : (n : ℕ) → r ≡ Ok n → PlaneRead (plane_at width height offset) body work (replace_suffix work start ys) at (Ok (at + n))
   next_read n e = (ap (add_count at) (sym (ap to_answer e) ∙ answer), suffix_is_plane)
 
-  pub next_within : (n : ℕ) → r ≡ Read n → at ≤ length body → at + n ≤ length body
+  pub next_within : (n : ℕ) → r ≡ Ok n → at ≤ length body → at + n ≤ length body
   next_within n e l =
       let b : n ≤ length (drop at body) = read_within (plane_at width height offset) work (drop at body) n (sym answer ∙ ap to_answer e) in
       let m : length (drop at body) ≡ length body - at = length-drop at body in
       omega arith
 
 -- the sides of a plane that decompress_next_plane read
-pub plane_read_sides : (width height offset : ℕ) (body work after : List ℕ) (at : ℕ) (r : Unpacked) (m : ℕ) → PlaneRead (plane_at width height offset) body work after at r → r ≡ Read m
+pub plane_read_sides : (width height offset : ℕ) (body work after : List ℕ) (at : ℕ) (r : Result ℕ Refusal) (m : ℕ) → PlaneRead (plane_at width height offset) body work after at r → r ≡ Ok m
     → (width ≤ 8192) × (height ≤ 8192)
 plane_read_sides width height offset body work after at r m e er = go (unpack_plane_at (plane_at width height offset) work (drop at body)).answer refl (sym (ap to_answer er) ∙ e.0)
   where
@@ -133,21 +134,22 @@ plane_read_sides width height offset body work after at r m e er = go (unpack_pl
 -- ---- a chain
 
 -- what a function that unpacks planes shows: its answer r, and the work area
-abbrev pub PlanesRead : (u : PlanesOutcome) (after : List ℕ) (r : Unpacked) → Type 0
+abbrev pub PlanesRead : (u : PlanesOutcome) (after : List ℕ) (r : Result ℕ Refusal) → Type 0
 PlanesRead u after r = (to_answer r ≡ u.answer) × (after ≡ u.work)
 
-module _ (all rest : List PlaneAt) (p : PlaneAt) (body work₀ work after : List ℕ) (from at : ℕ) (r : Unpacked) (h : PlanesInvariant all (p ∷ rest) body work₀ work from at)
+module _ (all rest : List PlaneAt) (p : PlaneAt) (body work₀ work after : List ℕ) (from at : ℕ) (r : Result ℕ Refusal) (h : PlanesInvariant all (p ∷ rest) body work₀ work from at)
     (e : PlaneRead p body work after at r) where
-  pub planes_step_read : (m : ℕ) → r ≡ Read m → length after ≡ length work → PlanesInvariant all rest body work₀ after from m
+  pub planes_step_read : (m : ℕ) → r ≡ Ok m → length after ≡ length work → PlanesInvariant all rest body work₀ after from m
   planes_step_read m er kept = planes_step all rest p body work₀ work after from at h e.1 m (sym (ap to_answer er) ∙ e.0) kept
 
-  pub planes_step_refused : (q : Refusal) → r ≡ Refused q → PlanesRead (add_read from (unpack_planes all work₀ (drop from body))) after r
-  planes_step_refused q er =
+  pub planes_step_refused : (q : Refusal) → r ≡ Err q → (up : Result ℕ Refusal) → IsErrAnd up (λ (k : Refusal). k ≡ q)
+      → PlanesRead (add_read from (unpack_planes all work₀ (drop from body))) after up
+  planes_step_refused q er up is =
       let u : add_read from (unpack_planes all work₀ (drop from body)) ≡ record { work = after; answer = refused (number q) } =
       planes_refusal all rest p body work₀ work after from at h e.1 (number q) (sym (ap to_answer er) ∙ e.0) in
-      (ap to_answer er ∙ sym (ap (λ (u : PlanesOutcome). u.answer) u), sym (ap (λ (u : PlanesOutcome). u.work) u))
+      (passed_up up q is ∙ sym (ap (λ (u : PlanesOutcome). u.answer) u), sym (ap (λ (u : PlanesOutcome). u.work) u))
 
-pub planes_last_read : (all : List PlaneAt) (p : PlaneAt) (body work₀ work after : List ℕ) (from at : ℕ) (r : Unpacked) → PlanesInvariant all (p ∷ []) body work₀ work from at
+pub planes_last_read : (all : List PlaneAt) (p : PlaneAt) (body work₀ work after : List ℕ) (from at : ℕ) (r : Result ℕ Refusal) → PlanesInvariant all (p ∷ []) body work₀ work from at
     → PlaneRead p body work after at r → PlanesRead (add_read from (unpack_planes all work₀ (drop from body))) after r
 planes_last_read all p body work₀ work after from at r h e =
     let u : add_read from (unpack_planes all work₀ (drop from body)) ≡ record { work = after; answer = to_answer r } =
@@ -164,7 +166,7 @@ colour_planes_are s width height cw ch ew eh =
 -- ---- alpha
 
 -- one plane from the start of the body
-pub alpha_plane : (width height offset : ℕ) (body work after : List ℕ) (alpha : Bool) (r : Unpacked) → alpha ≡ true → PlaneRead (plane_at width height offset) body work after 0 r
+pub alpha_plane : (width height offset : ℕ) (body work after : List ℕ) (alpha : Bool) (r : Result ℕ Refusal) → alpha ≡ true → PlaneRead (plane_at width height offset) body work after 0 r
     → PlanesRead (unpack_planes (alpha_planes_at offset alpha width height) work body) after r
 unfolding alpha_planes_at
 alpha_plane width height offset body work after alpha r t e =
@@ -172,20 +174,21 @@ alpha_plane width height offset body work after alpha r t e =
     let u = planes_last_read (plane_at width height offset ∷ []) (plane_at width height offset) body work work after 0 0 r head e in
     rw t (rw (add_read_0 (unpack_planes (plane_at width height offset ∷ []) work body)) at u)
 
-pub no_alpha_plane : (width height offset : ℕ) (body work : List ℕ) (alpha : Bool) → alpha ≡ false → PlanesRead (unpack_planes (alpha_planes_at offset alpha width height) work body) work (Read 0)
+pub no_alpha_plane : (width height offset : ℕ) (body work : List ℕ) (alpha : Bool) → alpha ≡ false → PlanesRead (unpack_planes (alpha_planes_at offset alpha width height) work body) work (Ok 0)
 unfolding alpha_planes_at unpack_planes
 no_alpha_plane width height offset body work alpha t = rw t (refl, refl)
 
 -- ---- decompress_planes
 
-module _ (header : BitmapStreamHeader) (width height offset : ℕ) (body work₀ work : List ℕ) (r : Unpacked)
+module _ (header : BitmapStreamHeader) (width height offset : ℕ) (body work₀ work : List ℕ) (r : Result ℕ Refusal)
     (e : PlanesRead (unpack_planes (alpha_planes_at offset header.use_alpha width height) work₀ body) work r) where
-  pub alpha_refused : (q : Refusal) → r ≡ Refused q → PlanesRead (unpack_planes (planes_with_alpha_at offset header width height) work₀ body) work r
+  pub alpha_refused : (q : Refusal) → r ≡ Err q → (up : Result ℕ Refusal) → IsErrAnd up (λ (k : Refusal). k ≡ q)
+      → PlanesRead (unpack_planes (planes_with_alpha_at offset header width height) work₀ body) work up
   unfolding planes_with_alpha_at
-  alpha_refused q er = rw (planes_append_refused (alpha_planes_at offset header.use_alpha width height) (colour_planes (subsampled header.color_plane_definition) width height) work₀ body (number q) (sym e.0 ∙ ap to_answer er)) e
+  alpha_refused q er up is = rw (planes_append_refused (alpha_planes_at offset header.use_alpha width height) (colour_planes (subsampled header.color_plane_definition) width height) work₀ body (number q) (sym e.0 ∙ ap to_answer er)) (passed_up up q is ∙ sym (ap to_answer er) ∙ e.0, e.1)
 
   -- the colour planes go on where alpha stopped
-  pub colours_after_alpha : (n : ℕ) → r ≡ Read n → (s : Bool) → s ≡ subsampled header.color_plane_definition → (after : List ℕ) (q : Unpacked)
+  pub colours_after_alpha : (n : ℕ) → r ≡ Ok n → (s : Bool) → s ≡ subsampled header.color_plane_definition → (after : List ℕ) (q : Result ℕ Refusal)
       → PlanesRead (add_read n (unpack_planes (colour_planes s width height) work (drop n body))) after q → PlanesRead (unpack_planes (planes_with_alpha_at offset header width height) work₀ body) after q
   unfolding planes_with_alpha_at
   colours_after_alpha n er s es after q u =
