@@ -1,28 +1,35 @@
--- The colour of a pixel by its loss level and its alpha flag.
-use Rattle.std.proofs.Common.{◌≡◌, ℕ, ◌<◌, ◌≤◌, Bool, true, false, sym, ap, ◌∙◌, le-ltb, lt-ltb, eq-eqb, ne_eqb}
-use Rattle.bitmap_format.specs.declared.Rgb.{Rgb}
-use Rattle.bitmap_format.specs.Colour.{rgb, ycocg, swap_red_blue, aycocg_colour}
+-- What a loss level that was checked says of the colour.
+use Rattle.std.proofs.Common.{◌≡◌, ℕ, Bool, true, false, ◌||◌, ◌==◌, nat_lt, Option, Some, None, refl, sym, ap, ◌∙◌}
+use Rattle.rle_format.specs.Choice.{choose}
+use Rattle.bitmap_format.specs.Colour.{rgb, aycocg_colour}
 use Rattle.bitmap_color.specs.ColourOrBlack.{colour_or_black}
 
-module _ (alpha : Bool) (level y co cg : ℕ) where
-  pub colour_level_0 : level ≡ 0 → rgb 0 0 0 ≡ colour_or_black alpha level y co cg
-  unfolding colour_or_black
-  colour_level_0 e = simp (eq-eqb level 0 e)
+module _ (level : ℕ) where
+  abbrev Checked : Option ℕ → Type 0
+  Checked known = known ≡ choose (level == 0 || nat_lt 7 level) None (Some level)
 
-  pub colour_level_over_7 : (level ≡ 0 → ⊥) → 7 < level → rgb 0 0 0 ≡ colour_or_black alpha level y co cg
-  unfolding colour_or_black
-  colour_level_over_7 n h = simp (ne_eqb level 0 n, lt-ltb 7 level h)
+  -- a level that is known is the one that was given, and is not refused
+  pub level_known : (known : ℕ) → Checked (Some known) → (known ≡ level) × ((level == 0 || nat_lt 7 level) ≡ false)
+  level_known known e = go (level == 0 || nat_lt 7 level) e
+    where
+      go : (t : Bool) → ◌≡◌ {A = Option ℕ} (Some known) (choose t None (Some level)) → (known ≡ level) × (t ≡ false)
+      go true e = absurd cc
+      go false e = (cc, refl)
 
-  -- a level of 1 to 7, also for a caller that tested it
-  module _ (n : level ≡ 0 → ⊥) (h : level ≤ 7) where
-    pub colour_level_valid : colour_or_black alpha level y co cg ≡ aycocg_colour alpha level y co cg
+  pub level_refused : Checked None → (level == 0 || nat_lt 7 level) ≡ true
+  level_refused e = go (level == 0 || nat_lt 7 level) e
+    where
+      go : (t : Bool) → ◌≡◌ {A = Option ℕ} None (choose t None (Some level)) → t ≡ true
+      go true e = refl
+      go false e = absurd cc
+
+  module _ (alpha : Bool) (y co cg : ℕ) where
+    pub colour_level_known : (known : ℕ) → Checked (Some known) → aycocg_colour alpha known y co cg ≡ colour_or_black alpha level y co cg
     unfolding colour_or_black
-    colour_level_valid = simp (ne_eqb level 0 n, le-ltb 7 level h)
+    colour_level_known known e =
+        let k = level_known known e in
+        ap (λ (l : ℕ). aycocg_colour alpha l y co cg) k.0 ∙ sym (ap (λ (t : Bool). choose t (rgb 0 0 0) (aycocg_colour alpha level y co cg)) k.1)
 
-    pub colour_flagged : (c : Rgb) → alpha ≡ true → c ≡ ycocg level y co cg → c ≡ colour_or_black alpha level y co cg
-    unfolding aycocg_colour
-    colour_flagged c t e = let z : c ≡ aycocg_colour alpha level y co cg = rw t e in z ∙ sym colour_level_valid
-
-    pub colour_unflagged : (c : Rgb) → alpha ≡ false → c ≡ ycocg level y co cg → swap_red_blue c ≡ colour_or_black alpha level y co cg
-    unfolding aycocg_colour
-    colour_unflagged c t e = let z : swap_red_blue c ≡ aycocg_colour alpha level y co cg = rw t (ap swap_red_blue e) in z ∙ sym colour_level_valid
+    pub colour_level_refused : Checked None → rgb 0 0 0 ≡ colour_or_black alpha level y co cg
+    unfolding colour_or_black
+    colour_level_refused e = sym (ap (λ (t : Bool). choose t (rgb 0 0 0) (aycocg_colour alpha level y co cg)) (level_refused e))

@@ -1,3 +1,3 @@
-mod I16
+mod Clip
 pub mod Colour
 mod Examples

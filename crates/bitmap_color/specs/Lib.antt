@@ -1,2 +1,3 @@
 pub mod ColourOrBlack
+pub mod CheckedLevel
 pub mod Examples
