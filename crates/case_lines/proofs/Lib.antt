@@ -1,3 +1,2 @@
 mod Examples
 mod Compared
-mod Results

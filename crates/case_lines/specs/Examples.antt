@@ -1,47 +1,60 @@
 -- Examples of what contracts say of a field and of a case, worked out by hand: one constant list, what the definitions compute for each, and
 -- what is expected. proofs/Examples.antt has the one proof.
-use Rattle.std.specs.Prelude.{ℕ, Bool, true, false, List, [], ◌∷◌}
+use Rattle.std.specs.Prelude.{ℕ, Bool, true, false, List, [], ◌∷◌, Option, Some, None, Result, Ok, Err, replicate}
+use Rattle.std.specs.Borrow.{Bor}
+use Rattle.rle_format.specs.declared.Refusal.{Refusal}
+use Rattle.rle_format.specs.declared.Refusal.TheVariants.{ZeroSize, ReadCompressedData}
+use Rattle.pixel_format.specs.declared.PixelLayout.{PixelLayout}
 use Rattle.pixel_format.specs.declared.PixelLayout.TheVariants.{BgrA, RgbA, ARgb, ABgr}
-use Rattle.case_lines.specs.declared.read.Number.{Number}
-use Rattle.case_lines.specs.declared.read.Number.TheVariants as number
-use Rattle.case_lines.specs.declared.read.ParsedAnswer.{ParsedAnswer}
-use Rattle.case_lines.specs.declared.read.ParsedAnswer.TheVariants as answer
-use Rattle.case_lines.specs.declared.read.ParsedLayout.{ParsedLayout}
-use Rattle.case_lines.specs.declared.read.ParsedLayout.TheVariants as layout
-use Rattle.case_lines.specs.declared.read.Bytes.{Bytes}
-use Rattle.case_lines.specs.declared.read.Bytes.TheVariants as bytes
 use Rattle.case_lines.specs.declared.report.Answer.{Answer}
+use Rattle.case_lines.specs.declared.report.Answer.TheVariants.{Count, Refused}
 use Rattle.case_lines.specs.declared.report.LineResult.{LineResult}
 use Rattle.case_lines.specs.declared.report.LineResult.TheVariants.{Equal, Different}
 use Rattle.case_lines.specs.Counts.{count_of, next_of_number, next_of_answer, next_of_bytes}
-use Rattle.case_lines.specs.Layouts.{layout_of}
-use Rattle.case_lines.specs.Results.{guard, case_result_of}
+use Rattle.case_lines.specs.Layouts.{layout_of, flag_of}
+use Rattle.case_lines.specs.Results.{guard, answer_of, case_result_of}
 
 pub data Example : Type 0 where
-  -- fields, and the numbers that contracts bound
-  number_read : Number → (next : ℕ) → Example
-  answer_read : ParsedAnswer → (next : ℕ) → Example
-  bytes_read : Bytes → (count next : ℕ) → Example
+  -- fields of a line of ten bytes, each with what is left of the line, and the numbers that contracts speak of
+  number_read : Option (ℕ × Bor (List ℕ)) → (next : ℕ) → Example
+  answer_read : Option (Answer × Bor (List ℕ)) → (next : ℕ) → Example
+  bytes_read : Option (ℕ × Bor (List ℕ)) → (count next : ℕ) → Example
   -- a number, and the layout that it means
-  layout_read : (number : ℕ) → ParsedLayout → Example
+  layout_read : (number : ℕ) → Option PixelLayout → Example
+  -- a number, and the flag that it means
+  flag_read : (number : ℕ) → Option Bool → Example
   -- guard bytes
   guards : List ℕ → Example
+  -- what a call returned, and its answer
+  answers : Result ℕ Refusal → Answer → Example
   -- two answers, what else was compared, and the result
   compares : (expected got : Answer) (header_equal bytes_equal guards_unchanged : Bool) → LineResult → Example
 
--- numbers, a layout or a result
+-- numbers, a layout, a flag, an answer or a result
 pub data Meaning : Type 0 where
   numbers : List ℕ → Meaning
-  layout_meant : ParsedLayout → Meaning
+  layout_meant : Option PixelLayout → Meaning
+  flag_meant : Option Bool → Meaning
+  answer : Answer → Meaning
   result : LineResult → Meaning
+
+-- a line of ten bytes
+abbrev pub line : List ℕ
+line = replicate 10 0x20
+
+-- the last n bytes of the line
+abbrev pub left : (n : ℕ) → Bor (List ℕ)
+left n = record { ref_ptr = (0, 0); now = replicate n 0x20 }
 
 -- what the definitions compute
 abbrev pub computed : Example → Meaning
-computed (number_read n next) = numbers (next_of_number n ∷ [])
-computed (answer_read a next) = numbers (next_of_answer a ∷ [])
-computed (bytes_read b count next) = numbers (count_of b ∷ next_of_bytes b ∷ [])
+computed (number_read n next) = numbers (next_of_number line n ∷ [])
+computed (answer_read a next) = numbers (next_of_answer line a ∷ [])
+computed (bytes_read b count next) = numbers (count_of b ∷ next_of_bytes line b ∷ [])
 computed (layout_read n l) = layout_meant (layout_of n)
+computed (flag_read n f) = flag_meant (flag_of n)
 computed (guards bs) = numbers guard
+computed (answers r a) = answer (answer_of r)
 computed (compares e g header bs gs r) = result (case_result_of e g header bs gs)
 
 -- what is expected
@@ -50,35 +63,43 @@ expected (number_read n next) = numbers (next ∷ [])
 expected (answer_read a next) = numbers (next ∷ [])
 expected (bytes_read b count next) = numbers (count ∷ next ∷ [])
 expected (layout_read n l) = layout_meant l
+expected (flag_read n f) = flag_meant f
 expected (guards bs) = numbers bs
+expected (answers r a) = answer a
 expected (compares e g header bs gs r) = result r
 
-abbrev pub counted : (number : ℕ) → Answer
-counted n = record { refused = false; number = n }
+-- a case with one difference
+abbrev pub different : (expected got : Answer) (header_equal bytes_equal guards_unchanged : Bool) → LineResult
+different e g header bs gs = Different (record { expected = e; got = g; header_equal = header; slices = record { bytes_equal = bs; guards_unchanged = gs } })
 
-abbrev pub refused : (number : ℕ) → Answer
-refused n = record { refused = true; number = n }
-
--- fields that were read, and malformed ones; the four layouts, and two numbers that mean none; the guard bytes; a case with everything as expected, and five with one difference each
+-- fields that were read, and malformed ones; the four layouts, and two numbers that mean none; the two flags, and two numbers that mean none; the
+-- guard bytes; a count and two refusals; a case with everything as expected, and five with one difference each
 abbrev pub examples : List Example
 examples =
-    number_read (number.Value 3 7) 7
-    ∷ number_read number.Malformed 0
-    ∷ answer_read (answer.Value (counted 3) 7) 7
-    ∷ answer_read answer.Malformed 0
-    ∷ bytes_read (bytes.Value 3 7) 3 7
-    ∷ bytes_read bytes.Malformed 0 0
-    ∷ layout_read 0 (layout.Value BgrA)
-    ∷ layout_read 1 (layout.Value RgbA)
-    ∷ layout_read 2 (layout.Value ARgb)
-    ∷ layout_read 3 (layout.Value ABgr)
-    ∷ layout_read 4 layout.Malformed
-    ∷ layout_read 256 layout.Malformed
+    number_read (Some (3, left 3)) 7
+    ∷ number_read None 0
+    ∷ answer_read (Some (Count 3, left 3)) 7
+    ∷ answer_read None 0
+    ∷ bytes_read (Some (3, left 3)) 3 7
+    ∷ bytes_read None 0 0
+    ∷ layout_read 0 (Some BgrA)
+    ∷ layout_read 1 (Some RgbA)
+    ∷ layout_read 2 (Some ARgb)
+    ∷ layout_read 3 (Some ABgr)
+    ∷ layout_read 4 None
+    ∷ layout_read 256 None
+    ∷ flag_read 0 (Some false)
+    ∷ flag_read 1 (Some true)
+    ∷ flag_read 2 None
+    ∷ flag_read 256 None
     ∷ guards (0xC7 ∷ 0xC7 ∷ 0xC7 ∷ 0xC7 ∷ 0xC7 ∷ 0xC7 ∷ 0xC7 ∷ 0xC7 ∷ 0xC7 ∷ 0xC7 ∷ 0xC7 ∷ 0xC7 ∷ 0xC7 ∷ 0xC7 ∷ 0xC7 ∷ 0xC7 ∷ [])
-    ∷ compares (refused 7) (refused 7) true true true Equal
-    ∷ compares (refused 7) (refused 8) true true true (Different (refused 7) (refused 8) true true true)
-    ∷ compares (counted 7) (refused 7) true true true (Different (counted 7) (refused 7) true true true)
-    ∷ compares (counted 7) (counted 7) false true true (Different (counted 7) (counted 7) false true true)
-    ∷ compares (counted 7) (counted 7) true false true (Different (counted 7) (counted 7) true false true)
-    ∷ compares (counted 7) (counted 7) true true false (Different (counted 7) (counted 7) true true false)
+    ∷ answers (Ok 7) (Count 7)
+    ∷ answers (Err ZeroSize) (Refused 1)
+    ∷ answers (Err ReadCompressedData) (Refused 7)
+    ∷ compares (Refused 7) (Refused 7) true true true Equal
+    ∷ compares (Refused 7) (Refused 8) true true true (different (Refused 7) (Refused 8) true true true)
+    ∷ compares (Count 7) (Refused 7) true true true (different (Count 7) (Refused 7) true true true)
+    ∷ compares (Count 7) (Count 7) false true true (different (Count 7) (Count 7) false true true)
+    ∷ compares (Count 7) (Count 7) true false true (different (Count 7) (Count 7) true false true)
+    ∷ compares (Count 7) (Count 7) true true false (different (Count 7) (Count 7) true true false)
     ∷ []

@@ -1,24 +1,76 @@
-// The result of replaying a case, and how it is printed.
-ghost use Rattle.std.specs.Prelude.{◌≡◌, true};
+// The result of replaying a case, and how the results of a file are counted and printed.
+ghost use Rattle.std.specs.Prelude.{◌≡◌};
 ghost use Rattle.rle_format.specs.Answer.{number};
-ghost use Rattle.case_lines.specs.Results.{case_result_of, is_same_answer_of};
+ghost use Rattle.case_lines.specs.declared.report.Answer.TheVariants as answer;
+ghost use Rattle.case_lines.specs.Results.{case_result_of, answer_of};
 
+use crate::guarded::Comparison;
 use rle_format::Refusal;
 use std::{fmt, io};
 
 // The answer of a call: a number of bytes, or the number of a refusal.
-#[derive(Clone, Copy)]
-pub struct Answer {
-    pub refused: bool,
-    pub number: usize,
+#[derive(Clone, Copy, PartialEq, Eq)]
+pub enum Answer {
+    Count(usize),
+    Refused(usize),
 }
 
 // As a data file has it.
 impl fmt::Display for Answer {
     fn fmt<W: fmt::Write>(&self, f: &mut fmt::Formatter<W>) -> fmt::Result {
-        let sign = if self.refused { "-" } else { "" };
-        let number = self.number;
-        write!(f, "{sign}{number}")
+        match self {
+            Answer::Count(number) => write!(f, "{number}"),
+            Answer::Refused(number) => write!(f, "-{number}"),
+        }
+    }
+}
+
+// The answer of a call that was refused.
+impl From<Refusal> for Answer {
+    ghost from_gives = { λ refusal a. a ≡ answer.Refused (number refusal) };
+
+    fn from(refusal: Refusal) -> Answer {
+        Answer::Refused(usize::from(u8::from(refusal)))
+    }
+}
+
+// The answer of a call that returns a number of bytes or is refused.
+impl From<Result<usize, Refusal>> for Answer {
+    ghost from_gives = { λ r a. a ≡ answer_of r };
+
+    fn from(returned: Result<usize, Refusal>) -> Answer {
+        match returned {
+            Ok(count) => Answer::Count(count),
+            Err(refusal) => Answer::from(refusal),
+        }
+    }
+}
+
+// What was observed of a case that did not give the stored result: the two answers; whether the returned header record, if there is one, is the
+// expected one; the slices that could be written, compared.
+#[derive(Clone, Copy)]
+pub struct Difference {
+    pub expected: Answer,
+    pub got: Answer,
+    pub header_equal: bool,
+    pub slices: Comparison,
+}
+
+impl fmt::Display for Difference {
+    fn fmt<W: fmt::Write>(&self, f: &mut fmt::Formatter<W>) -> fmt::Result {
+        let expected = self.expected;
+        let got = self.got;
+        write!(f, "expected {expected}, got {got}")?;
+        if !self.header_equal {
+            write!(f, "; the header record differs")?;
+        }
+        if !self.slices.bytes_equal {
+            write!(f, "; the destination differs")?;
+        }
+        if !self.slices.guards_unchanged {
+            write!(f, "; bytes around the destination were changed")?;
+        }
+        Ok(())
     }
 }
 
@@ -26,37 +78,8 @@ impl fmt::Display for Answer {
 #[derive(Clone, Copy)]
 pub enum LineResult {
     Equal,
-    // The two answers; whether the returned header record, if there is one, is the expected one; whether each slice that could be
-    // written has the expected bytes; whether the guard bytes around it are unchanged.
-    Different {
-        expected: Answer,
-        got: Answer,
-        header_equal: bool,
-        bytes_equal: bool,
-        guards_unchanged: bool,
-    },
+    Different(Difference),
     Malformed,
-}
-
-// At most this many lines of a file that are different or malformed are printed one by one. The others are only counted.
-const MAX_REPORTED_LINES: usize = 10;
-
-// How many lines had each result. Comments are not counted.
-#[derive(Clone, Copy)]
-pub(crate) struct Tally {
-    pub(crate) equal: usize,
-    pub(crate) different: usize,
-    pub(crate) malformed: usize,
-}
-
-// The answer of a call that was refused.
-pub fn answer_of_refusal(refusal: Refusal) -> Answer
-    ensures { (result.refused ≡ true) × (result.number ≡ number refusal) }
-{
-    Answer {
-        refused: true,
-        number: rle_format::number_of(refusal) as usize,
-    }
 }
 
 // The result of a case whose call was made.
@@ -64,179 +87,118 @@ pub fn case_result(
     expected: Answer,
     got: Answer,
     header_equal: bool,
-    bytes_equal: bool,
-    guards_unchanged: bool,
+    slices: Comparison,
 ) -> LineResult
-    ensures { result ≡ case_result_of expected got header_equal bytes_equal guards_unchanged }
+    ensures { result ≡ case_result_of expected got header_equal slices.bytes_equal slices.guards_unchanged }
 {
-    let different = LineResult::Different {
+    if expected == got && header_equal && slices.bytes_equal && slices.guards_unchanged {
+        return LineResult::Equal;
+    }
+    LineResult::Different(Difference {
         expected,
         got,
         header_equal,
-        bytes_equal,
-        guards_unchanged,
-    };
-    if !is_same_answer(expected, got) {
-        return different;
-    }
-    if !header_equal {
-        return different;
-    }
-    if !bytes_equal {
-        return different;
-    }
-    if !guards_unchanged {
-        return different;
-    }
-    LineResult::Equal
+        slices,
+    })
 }
 
-fn is_same_answer(expected: Answer, got: Answer) -> bool
-    ensures { result ≡ is_same_answer_of expected got }
-{
-    if got.number != expected.number {
-        return false;
-    }
-    got.refused == expected.refused
+// At most this many lines of a file that are different or malformed are printed one by one. The others are only counted.
+const MAX_REPORTED_LINES: usize = 10;
+
+// How many lines had each result. Comments are not counted. A count stops at the largest number: no file has so many lines, and the functions
+// that count need no precondition.
+#[derive(Clone, Copy, Default)]
+struct Tally {
+    equal: usize,
+    different: usize,
+    malformed: usize,
 }
 
-// The tally of no line.
-pub(crate) fn new_tally() -> Tally {
-    Tally {
-        equal: 0,
-        different: 0,
-        malformed: 0,
+impl Tally {
+    fn count(&mut self, res: LineResult) {
+        let count = match res {
+            LineResult::Equal => &mut self.equal,
+            LineResult::Different(_) => &mut self.different,
+            LineResult::Malformed => &mut self.malformed,
+        };
+        *count = count.saturating_add(1);
+    }
+
+    // How many lines did not give the stored result.
+    fn failures(self) -> usize {
+        self.different.saturating_add(self.malformed)
     }
 }
 
-// The tally with one more result, that of line `line`. Prints what is wrong with the line, unless that was printed for enough lines.
-pub(crate) fn add_result(
-    rt: &impl Print,
-    path: &[u8],
-    line: usize,
+// The report of a file, which ends with the tally, or with why the file could not be replayed. Output that cannot be written is lost, and what was
+// to be replayed is replayed all the same.
+pub(crate) struct Report<'a, P> {
+    rt: &'a P,
+    path: &'a [u8],
     tally: Tally,
-    res: LineResult,
-) -> Tally {
-    if saturating_add(tally.different, tally.malformed) < MAX_REPORTED_LINES {
-        lose_error(print_result(rt, path, line, res));
-    }
-    match res {
-        LineResult::Equal => Tally {
-            equal: saturating_add(tally.equal, 1),
-            different: tally.different,
-            malformed: tally.malformed,
-        },
-        LineResult::Different {
-            expected: _,
-            got: _,
-            header_equal: _,
-            bytes_equal: _,
-            guards_unchanged: _,
-        } => Tally {
-            equal: tally.equal,
-            different: saturating_add(tally.different, 1),
-            malformed: tally.malformed,
-        },
-        LineResult::Malformed => Tally {
-            equal: tally.equal,
-            different: tally.different,
-            malformed: saturating_add(tally.malformed, 1),
-        },
-    }
 }
 
-// The sum of two counts, or the largest number where it is larger. No file has so many lines; the test is there so that the
-// functions that count need no precondition.
-pub(crate) fn saturating_add(a: usize, b: usize) -> usize {
-    if usize::MAX - a < b {
-        return usize::MAX;
-    }
-    a + b
-}
-
-// Output that cannot be written is lost, and what was to be replayed is replayed all the same.
-fn lose_error(printed: io::Result<()>) {
-    match printed {
-        Ok(()) | Err(_) => {}
-    }
-}
-
-// Prints why a file could not be replayed.
-pub(crate) fn print_error(rt: &impl Print, path: &[u8], why: &str) {
-    lose_error(write_error(rt, path, why));
-}
-
-fn write_error(rt: &impl Print, path: &[u8], why: &str) -> io::Result<()> {
-    rt.write_all(path)?;
-    println!(rt; ": {why}")
-}
-
-// Prints the tally of a file.
-pub(crate) fn print_tally(rt: &impl Print, path: &[u8], tally: Tally) {
-    lose_error(write_tally(rt, path, tally));
-}
-
-fn write_tally(rt: &impl Print, path: &[u8], tally: Tally) -> io::Result<()> {
-    let Tally {
-        equal,
-        different,
-        malformed,
-    } = tally;
-    let cases = saturating_add(equal, different);
-    rt.write_all(path)?;
-    println!(rt; ": {cases} cases, {equal} equal, {different} different, {malformed} bad lines")
-}
-
-// Prints what is wrong with a line. For a case that gave the stored result it prints nothing.
-fn print_result(rt: &impl Print, path: &[u8], line: usize, res: LineResult) -> io::Result<()> {
-    match res {
-        LineResult::Equal => Ok(()),
-        LineResult::Malformed => {
-            print_location(rt, path, line)?;
-            println!(rt; "bad line")
-        }
-        LineResult::Different {
-            expected,
-            got,
-            header_equal,
-            bytes_equal,
-            guards_unchanged,
-        } => {
-            print_location(rt, path, line)?;
-            print_difference(
-                rt,
-                expected,
-                got,
-                header_equal,
-                bytes_equal,
-                guards_unchanged,
-            )
+impl<'a, P: Print> Report<'a, P> {
+    pub(crate) fn new(rt: &'a P, path: &'a [u8]) -> Report<'a, P> {
+        Report {
+            rt,
+            path,
+            tally: Tally::default(),
         }
     }
+
+    // Counts the result of line `line`, and prints what is wrong with it, unless that was printed for enough lines.
+    pub(crate) fn add(&mut self, line: usize, res: LineResult) {
+        if self.tally.failures() < MAX_REPORTED_LINES {
+            let _ = self.print_result(line, res);
+        }
+        self.tally.count(res);
+    }
+
+    // Prints what is wrong with a line. For a case that gave the stored result it prints nothing.
+    fn print_result(&self, line: usize, res: LineResult) -> io::Result<()> {
+        match res {
+            LineResult::Equal => Ok(()),
+            LineResult::Malformed => {
+                print_line(self.rt, self.path, format_args!(", line {line}: bad line"))
+            }
+            LineResult::Different(difference) => {
+                print_line(
+                    self.rt,
+                    self.path,
+                    format_args!(", line {line}: {difference}"),
+                )
+            }
+        }
+    }
+
+    // Prints why the file could not be replayed.
+    pub(crate) fn fail(self, why: &str) {
+        let Report { rt, path, tally: _ } = self;
+        let _ = print_line(rt, path, format_args!(": {why}"));
+    }
+
+    // Prints the tally.
+    pub(crate) fn finish(self) {
+        let Report { rt, path, tally } = self;
+        let Tally {
+            equal,
+            different,
+            malformed,
+        } = tally;
+        let cases = equal.saturating_add(different);
+        let _ = print_line(
+            rt,
+            path,
+            format_args!(
+                ": {cases} cases, {equal} equal, {different} different, {malformed} bad lines"
+            ),
+        );
+    }
 }
 
-fn print_location(rt: &impl Print, path: &[u8], line: usize) -> io::Result<()> {
+// Prints a line that begins with the path.
+fn print_line(rt: &impl Print, path: &[u8], text: impl fmt::Display + Drop) -> io::Result<()> {
     rt.write_all(path)?;
-    print!(rt; ", line {line}: ")
-}
-
-fn print_difference(
-    rt: &impl Print,
-    expected: Answer,
-    got: Answer,
-    header_equal: bool,
-    bytes_equal: bool,
-    guards_unchanged: bool,
-) -> io::Result<()> {
-    print!(rt; "expected {expected}, got {got}")?;
-    if !header_equal {
-        print!(rt; "; the header record differs")?;
-    }
-    if !bytes_equal {
-        print!(rt; "; the destination differs")?;
-    }
-    if !guards_unchanged {
-        print!(rt; "; bytes around the destination were changed")?;
-    }
-    println!(rt;)
+    rt.println(text)
 }
