@@ -9,14 +9,13 @@
 //     WIDTH HEIGHT END ROOM ANSWER SAMPLES AFTER
 // The samples are packed into a slice of 20,000 bytes C7, and the first END bytes of that slice are unpacked. ANSWER is the answer
 // of unpacking; or, if packing is refused, the negative of that refusal's number; or -0 if END is over 20,000.
-ghost use Rattle.std.specs.Prelude.{◌+◌, ◌≤◌, length};
+ghost use Rattle.std.specs.Prelude.{◌≤◌, length};
 
+use case_lines::file::Replay;
 use case_lines::guarded::{GUARD_SIZE, MAX_SLICE};
-use case_lines::read::{Bytes, Number, ParsedAnswer};
 use case_lines::report::{Answer, LineResult};
 use case_lines::{guarded, read, report};
-use rle_format::{Packed, Unpacked};
-use rle_round_trip::RoundTrip;
+use rle_round_trip::RoundTripError;
 
 // What a case calls. It is the same for all cases of a file.
 #[derive(Clone, Copy)]
@@ -26,197 +25,100 @@ pub(crate) enum Operation {
     RoundTrip,
 }
 
-// The length of the slice that a round trip packs into.
+// The call of a case. Only a round trip has an `end`.
+#[derive(Clone, Copy)]
+enum Call {
+    Unpack,
+    Pack,
+    RoundTrip { end: usize },
+}
+
+// The slice that a round trip packs into: its length, and the value of every byte before the call.
 const PACKED_SIZE: usize = 20_000;
 
-// The numbers of a case, and the index of the source field. Only a round trip has an `end`; in other cases it is 0.
+const PACKED_BYTE: u8 = 0xC7;
+
+// The numbers of a case.
 #[derive(Clone, Copy)]
 struct Case {
-    operation: Operation,
     width: usize,
     height: usize,
-    end: usize,
+    call: Call,
     room: usize,
     answer: Answer,
-    next: usize,
 }
 
-#[derive(Clone, Copy)]
-enum ParsedCase {
-    Value(Case),
-    Malformed,
-}
-
-// Replays the case of a line.
-pub(crate) fn replay(operation: Operation, line: &[u8]) -> LineResult {
-    let ParsedCase::Value(case) = parse_case(operation, line) else {
-        return LineResult::Malformed;
-    };
-    let mut source = guarded::new_array();
-    let mut dst = guarded::new_array();
-    let mut after = guarded::new_array();
-    replay_with_buffers(
-        case,
-        line,
-        &mut source[GUARD_SIZE..GUARD_SIZE + MAX_SLICE],
-        &mut dst,
-        &mut after[GUARD_SIZE..GUARD_SIZE + MAX_SLICE],
-    )
-}
-
-// The same with the case's numbers, and with buffers for its bytes.
-fn replay_with_buffers(
-    case: Case,
-    line: &[u8],
-    source: &mut [u8],
-    dst: &mut [u8],
-    after: &mut [u8],
-) -> LineResult
-    requires { length after.old + 32 ≤ length dst.old }
-{
-    let start = case.next;
-    let Bytes::Value { count, next } = read::next_bytes(line, start, source) else {
-        return LineResult::Malformed;
-    };
-    let Bytes::Value {
-        count: room,
-        next: end,
-    } = read::next_bytes(line, next, after)
-    else {
-        return LineResult::Malformed;
-    };
-    if !is_complete(case, room, line, end) {
-        return LineResult::Malformed;
+impl Replay for Operation {
+    fn replay(&self, line: &[u8]) -> LineResult {
+        replay_case(*self, line).unwrap_or(LineResult::Malformed)
     }
-    run(case, &source[0..count], dst, &after[0..room])
+}
+
+// Replays the case of a line, or returns None for a malformed line.
+fn replay_case(operation: Operation, line: &[u8]) -> Option<LineResult> {
+    let (case, line) = next_case(operation, line)?;
+    let mut source = [0; MAX_SLICE];
+    let (count, line) = read::next_bytes(line, &mut source)?;
+    let mut after = [0; MAX_SLICE];
+    let (room, line) = read::next_bytes(line, &mut after)?;
+    if !line.is_empty() || room != case.room {
+        return None;
+    }
+    Some(run(case, &source[..count], &after[..room]))
 }
 
 // Reads the numbers of a case.
-fn parse_case(operation: Operation, line: &[u8]) -> ParsedCase {
-    let Number::Value { value: width, next } = read::next_number(line, 0) else {
-        return ParsedCase::Malformed;
+fn next_case(operation: Operation, line: &[u8]) -> Option<(Case, &[u8])> {
+    let ([width, height], line) = read::next_numbers::<2>(line)?;
+    let (call, line) = match operation {
+        Operation::Unpack => (Call::Unpack, line),
+        Operation::Pack => (Call::Pack, line),
+        Operation::RoundTrip => {
+            let (end, line) = read::next_number(line)?;
+            (Call::RoundTrip { end }, line)
+        }
     };
-    let Number::Value {
-        value: height,
-        next,
-    } = read::next_number(line, next)
-    else {
-        return ParsedCase::Malformed;
-    };
-    let Number::Value { value: end, next } = read_end(operation, line, next) else {
-        return ParsedCase::Malformed;
-    };
-    let Number::Value { value: room, next } = read::next_number(line, next) else {
-        return ParsedCase::Malformed;
-    };
-    let ParsedAnswer::Value { answer, next } = read::next_answer(line, next) else {
-        return ParsedCase::Malformed;
-    };
-    ParsedCase::Value(Case {
-        operation,
+    let (room, line) = read::next_number(line)?;
+    let (answer, line) = read::next_answer(line)?;
+    let case = Case {
         width,
         height,
-        end,
+        call,
         room,
         answer,
-        next,
-    })
+    };
+    Some((case, line))
 }
 
-// Reads the END of a round trip. The line of another case has none, so the next field begins at the same index.
-fn read_end(operation: Operation, line: &[u8], start: usize) -> Number {
-    match operation {
-        Operation::RoundTrip => read::next_number(line, start),
-        Operation::Unpack | Operation::Pack => Number::Value {
-            value: 0,
-            next: start,
-        },
-    }
-}
-
-// Whether the line ends after AFTER, and AFTER has as many bytes as the destination.
-fn is_complete(case: Case, room: usize, line: &[u8], end: usize) -> bool {
-    room == case.room && end == line.len()
-}
-
-// Makes the call with the slice of `dst` between its guard bytes, as long as `after`, and compares everything that can be observed.
-fn run(case: Case, source: &[u8], dst: &mut [u8], after: &[u8]) -> LineResult
-    requires { length after.now + 32 ≤ length dst.old }
+// Makes the call with a destination between guard bytes, as long as `after`, and compares everything that can be observed.
+fn run(case: Case, source: &[u8], after: &[u8]) -> LineResult
+    requires { length after.now ≤ 33000 }
 {
-    let answer = call(case, source, &mut dst[GUARD_SIZE..GUARD_SIZE + after.len()]);
-    let comparison = guarded::compare_slice(dst, after);
-    let expected = case.answer;
-    report::case_result(
-        expected,
-        answer,
-        true,
-        comparison.bytes_equal,
-        comparison.guards_unchanged,
-    )
+    let mut array = guarded::new_array();
+    let dst = &mut array[GUARD_SIZE..GUARD_SIZE + after.len()];
+    guarded::prepare(dst);
+    let got = make_call(case, source, dst);
+    report::case_result(case.answer, got, true, guarded::compare_slice(&array, after))
 }
 
 // Makes the call of a case.
-fn call(case: Case, source: &[u8], dst: &mut [u8]) -> Answer {
-    guarded::prepare(dst);
-    let operation = case.operation;
-    match operation {
-        Operation::Unpack => answer_of_unpacked(rle_decoder::decompress_8bpp_plane(
-            source,
-            dst,
-            case.width,
-            case.height,
-        )),
-        Operation::Pack => answer_of_packed(rle_encoder::compress_8bpp_plane(
-            source,
-            dst,
-            case.width,
-            case.height,
-        )),
-        Operation::RoundTrip => round_trip(case, source, dst),
+fn make_call(case: Case, source: &[u8], dst: &mut [u8]) -> Answer {
+    let Case { width, height, .. } = case;
+    match case.call {
+        Call::Unpack => rle_decoder::decompress_8bpp_plane(source, dst, width, height).into(),
+        Call::Pack => rle_encoder::compress_8bpp_plane(source, dst, width, height).into(),
+        Call::RoundTrip { end } => round_trip(source, end, dst, width, height),
     }
 }
 
 // Packs the samples, and unpacks the first `end` bytes of the slice that they were packed into.
-fn round_trip(case: Case, samples: &[u8], dst: &mut [u8]) -> Answer {
-    let mut packed = guarded::new_array();
-    let trip = rle_round_trip::round_trip(
-        samples,
-        &mut packed[GUARD_SIZE..GUARD_SIZE + PACKED_SIZE],
-        case.end,
-        dst,
-        case.width,
-        case.height,
-    );
-    answer_of_round_trip(trip)
-}
-
-fn answer_of_unpacked(unpacked: Unpacked) -> Answer {
-    match unpacked {
-        Unpacked::Read(number) => Answer {
-            refused: false,
-            number,
-        },
-        Unpacked::Refused(refusal) => report::answer_of_refusal(refusal),
-    }
-}
-
-fn answer_of_packed(packed: Packed) -> Answer {
-    match packed {
-        Packed::Written(number) => Answer {
-            refused: false,
-            number,
-        },
-        Packed::Refused(refusal) => report::answer_of_refusal(refusal),
-    }
-}
-
-fn answer_of_round_trip(trip: RoundTrip) -> Answer {
-    match trip {
-        RoundTrip::Done(unpacked) => answer_of_unpacked(unpacked),
-        RoundTrip::NotPacked(refusal) => report::answer_of_refusal(refusal),
-        RoundTrip::TooLong => Answer {
-            refused: true,
-            number: 0,
-        },
+fn round_trip(samples: &[u8], end: usize, dst: &mut [u8], width: usize, height: usize) -> Answer {
+    let mut packed = [PACKED_BYTE; PACKED_SIZE];
+    match rle_round_trip::round_trip(samples, &mut packed, end, dst, width, height) {
+        Ok(count) => Answer::Count(count),
+        Err(RoundTripError::NotPacked(refusal) | RoundTripError::NotUnpacked(refusal)) => {
+            refusal.into()
+        }
+        Err(RoundTripError::TooLong) => Answer::Refused(0),
     }
 }
