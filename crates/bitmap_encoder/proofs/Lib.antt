@@ -1,3 +1,3 @@
-mod RawBody
+mod Checks
 mod RleBody
-mod Pictures
+mod RawBody

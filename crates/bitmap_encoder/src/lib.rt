@@ -2,20 +2,18 @@
 #![tactic(auto)]
 
 mod planes;
-mod raw;
-mod rle;
 mod sources;
 
 ghost use Rattle.std.specs.Prelude.{◌≡◌, true, false, length};
-ghost use Rattle.rle_format.specs.Answer.{packed_to_answer};
 ghost use Rattle.rle_format.specs.Slice.{overwrite};
 ghost use Rattle.pixel_format.specs.Channel.{channel_offsets};
 ghost use Rattle.bitmap_format.specs.PackPicture.{three_planes, four_planes, pixel_planes, pixel_planes_alpha, pack_picture, header_to_send_of, with_header, encoded_to_answer};
 
 use bitmap_format::{BitmapStreamHeader, ColorPlaneDefinition, Encoded};
 use pixel_format::{Layout, PixelLayout};
-use planes::{encode_four, encode_three};
-use rle_format::Packed;
+use planes::encode;
+use rle_format::Refusal;
+use sources::{alpha_and_colors, colors};
 
 // The header record to send (FORMAT 7.5). The alpha flag is false with an alpha plane too.
 fn header_to_send(alpha: bool, rle: bool) -> BitmapStreamHeader
@@ -25,19 +23,6 @@ fn header_to_send(alpha: bool, rle: bool) -> BitmapStreamHeader
         enable_rle_compression: rle,
         use_alpha: false,
         color_plane_definition: ColorPlaneDefinition::Argb,
-    }
-}
-
-// The answer of a packer: a number of bytes with the header record, or a refusal.
-fn encoded(answer: Packed, alpha: bool, rle: bool) -> Encoded
-    ensures { encoded_to_answer result ≡ with_header (header_to_send_of alpha rle) (packed_to_answer answer) }
-{
-    match answer {
-        Packed::Written(bytes) => Encoded::Written {
-            bytes: bytes,
-            header: header_to_send(alpha, rle),
-        },
-        Packed::Refused(reason) => Encoded::Refused(reason),
     }
 }
 
@@ -51,12 +36,14 @@ pub fn encode_channels_body(
     rle: bool,
     width: usize,
     height: usize,
-) -> Encoded
+) -> Result<Encoded, Refusal>
     ensures answer { encoded_to_answer result ≡ with_header (header_to_send_of false rle) (pack_picture rle width height (length dst.old) (three_planes r.now g.now b.now)).answer }
     ensures slice { dst.new ≡ overwrite dst.old (pack_picture rle width height (length dst.old) (three_planes r.now g.now b.now)).written }
 {
-    let answer = encode_three(r, g, b, Layout::Planar, dst, rle, width, height);
-    encoded(answer, false, rle)
+    let planes = colors(r, g, b, Layout::Planar);
+    let bytes = encode(&planes, dst, rle, width, height)?;
+    let header = header_to_send(false, rle);
+    Ok(Encoded { bytes, header })
 }
 
 // The same with an alpha plane, which is the first.
@@ -69,12 +56,14 @@ pub fn encode_channels_body_alpha(
     rle: bool,
     width: usize,
     height: usize,
-) -> Encoded
+) -> Result<Encoded, Refusal>
     ensures answer { encoded_to_answer result ≡ with_header (header_to_send_of true rle) (pack_picture rle width height (length dst.old) (four_planes r.now g.now b.now a.now)).answer }
     ensures slice { dst.new ≡ overwrite dst.old (pack_picture rle width height (length dst.old) (four_planes r.now g.now b.now a.now)).written }
 {
-    let answer = encode_four(r, g, b, a, Layout::Planar, dst, rle, width, height);
-    encoded(answer, true, rle)
+    let planes = alpha_and_colors(r, g, b, a, Layout::Planar);
+    let bytes = encode(&planes, dst, rle, width, height)?;
+    let header = header_to_send(true, rle);
+    Ok(Encoded { bytes, header })
 }
 
 // Packs a picture from pixels of the layout (FORMAT 7.1), without their alpha.
@@ -85,13 +74,14 @@ pub fn encode_bitmap_body(
     rle: bool,
     width: usize,
     height: usize,
-) -> Encoded
+) -> Result<Encoded, Refusal>
     ensures answer { encoded_to_answer result ≡ with_header (header_to_send_of false rle) (pack_picture rle width height (length dst.old) (pixel_planes (channel_offsets layout) src.now)).answer }
     ensures slice { dst.new ≡ overwrite dst.old (pack_picture rle width height (length dst.old) (pixel_planes (channel_offsets layout) src.now)).written }
 {
-    let pixels = Layout::Pixels(layout);
-    let answer = encode_three(src, src, src, pixels, dst, rle, width, height);
-    encoded(answer, false, rle)
+    let planes = colors(src, src, src, Layout::Pixels(layout));
+    let bytes = encode(&planes, dst, rle, width, height)?;
+    let header = header_to_send(false, rle);
+    Ok(Encoded { bytes, header })
 }
 
 // The same with their alpha.
@@ -102,11 +92,12 @@ pub fn encode_bitmap_body_alpha(
     rle: bool,
     width: usize,
     height: usize,
-) -> Encoded
+) -> Result<Encoded, Refusal>
     ensures answer { encoded_to_answer result ≡ with_header (header_to_send_of true rle) (pack_picture rle width height (length dst.old) (pixel_planes_alpha (channel_offsets layout) src.now)).answer }
     ensures slice { dst.new ≡ overwrite dst.old (pack_picture rle width height (length dst.old) (pixel_planes_alpha (channel_offsets layout) src.now)).written }
 {
-    let pixels = Layout::Pixels(layout);
-    let answer = encode_four(src, src, src, src, pixels, dst, rle, width, height);
-    encoded(answer, true, rle)
+    let planes = alpha_and_colors(src, src, src, src, Layout::Pixels(layout));
+    let bytes = encode(&planes, dst, rle, width, height)?;
+    let header = header_to_send(true, rle);
+    Ok(Encoded { bytes, header })
 }

@@ -1,74 +1,76 @@
-// Packing a picture from the slices of its channels, which all have the same layout. If that is pixels, the same slice is passed for each channel.
-ghost use Rattle.std.specs.Prelude.{◌≡◌, length};
-ghost use Rattle.rle_format.specs.Answer.{packed_to_answer};
+// Packing a picture from its planes.
+ghost use Rattle.std.specs.Prelude.{◌≡◌, ◌*◌, ◌≤◌, false, length, map, IfOk, IfErr};
+ghost use Rattle.rle_format.specs.Answer.{refused, number, to_answer};
 ghost use Rattle.rle_format.specs.Slice.{overwrite};
-ghost use Rattle.bitmap_format.specs.PackPicture.{pack_picture};
-ghost use Rattle.bitmap_encoder.specs.Sources.{three_channels, four_channels};
+ghost use Rattle.rle_format.specs.Written.{answer_at, slice_at};
+ghost use Rattle.pixel_format.specs.Samples.{samples_in};
+ghost use Rattle.bitmap_format.specs.PackPicture.{picture_segments, raw_body, write_all_or_nothing, any_short, check_pack, pack_picture};
 
-use crate::raw::{write_colors, write_plane};
-use crate::rle::{compress_colors, compress_next_plane};
-use crate::sources::{check_colors, check_sources};
-use pixel_format::{Channel, Layout};
-use rle_format::{Packed, Refusal};
+use pixel_format::Samples;
+use rle_encoder::compress_8bpp_channel;
+use rle_format::{Refusal, ValidSides};
 
-// Three planes: R, G, B.
-pub(crate) fn encode_three(
-    r: &[u8],
-    g: &[u8],
-    b: &[u8],
-    layout: Layout,
-    dst: &mut [u8],
-    rle: bool,
-    width: usize,
-    height: usize,
-) -> Packed
-    ensures answer { packed_to_answer result ≡ (pack_picture rle width height (length dst.old) (three_channels layout r.now g.now b.now)).answer }
-    ensures slice { dst.new ≡ overwrite dst.old (pack_picture rle width height (length dst.old) (three_channels layout r.now g.now b.now)).written }
+// The checks before anything is written: refusals 1, 2 and 11.
+fn check_planes(planes: &[Samples], width: usize, height: usize) -> Result<ValidSides, Refusal>
+    ensures passed { IfOk result (λ sides. (sides.width ≡ width) × (sides.height ≡ height) × (any_short (width * height) (map samples_in planes.now) ≡ false)) }
+    ensures refused { IfErr result (λ r. check_pack width height (map samples_in planes.now) ≡ refused (number r)) }
 {
-    let checked = check_colors(r, g, b, layout, width, height);
-    let Packed::Written(n) = checked else {
-        return checked;
-    };
-    if rle {
-        return compress_colors(r, g, b, layout, dst, 0, width, height);
+    let sides = ValidSides::new(width, height)?;
+    for plane in planes {
+        if plane.count() < sides.area() {
+            return Err(Refusal::NotEnoughBytes);
+        }
     }
-    if dst.len() <= 3 * n {
-        return Packed::Refused(Refusal::BufferTooSmall);
-    }
-    write_colors(r, g, b, layout, dst, 0, n);
-    Packed::Written(3 * n + 1)
+    Ok(sides)
 }
 
-// Four planes: A, R, G, B.
-pub(crate) fn encode_four(
-    r: &[u8],
-    g: &[u8],
-    b: &[u8],
-    a: &[u8],
-    layout: Layout,
+// Packs each plane behind the one before it (FORMAT 7.3).
+fn compress_planes(planes: &[Samples], dst: &mut [u8], sides: ValidSides) -> Result<usize, Refusal>
+    requires { any_short (sides.width * sides.height) (map samples_in planes.now) ≡ false }
+    ensures answer { to_answer result ≡ answer_at (picture_segments sides.width sides.height (map samples_in planes.now)) dst.old 0 }
+    ensures slice { dst.new ≡ slice_at (picture_segments sides.width sides.height (map samples_in planes.now)) dst.old 0 }
+{
+    let mut at = 0;
+    for plane in planes {
+        at += compress_8bpp_channel(*plane, &mut dst[at..], sides.width, sides.height)?;
+    }
+    Ok(at)
+}
+
+// Writes the first n samples of each plane, and the zero byte that ends a raw body (FORMAT 7.4).
+fn write_planes(planes: &[Samples], dst: &mut [u8], n: usize) -> Result<usize, Refusal>
+    requires { (length planes.now ≤ 4) × (n ≤ 67108864) × (any_short n (map samples_in planes.now) ≡ false) }
+    ensures answer { to_answer result ≡ (write_all_or_nothing (raw_body n (map samples_in planes.now)) (length dst.old)).answer }
+    ensures slice { dst.new ≡ overwrite dst.old (write_all_or_nothing (raw_body n (map samples_in planes.now)) (length dst.old)).written }
+{
+    let size = planes.len() * n + 1;
+    if dst.len() < size {
+        return Err(Refusal::BufferTooSmall);
+    }
+    let mut at = 0;
+    for plane in planes {
+        plane.read(0, &mut dst[at..at + n]);
+        at += n;
+    }
+    dst[at] = 0;
+    Ok(size)
+}
+
+// Packs a picture of up to four planes into the first bytes of dst, and returns the number of bytes written.
+pub(crate) fn encode(
+    planes: &[Samples],
     dst: &mut [u8],
     rle: bool,
     width: usize,
     height: usize,
-) -> Packed
-    ensures answer { packed_to_answer result ≡ (pack_picture rle width height (length dst.old) (four_channels layout r.now g.now b.now a.now)).answer }
-    ensures slice { dst.new ≡ overwrite dst.old (pack_picture rle width height (length dst.old) (four_channels layout r.now g.now b.now a.now)).written }
+) -> Result<usize, Refusal>
+    requires { length planes.now ≤ 4 }
+    ensures answer { to_answer result ≡ (pack_picture rle width height (length dst.old) (map samples_in planes.now)).answer }
+    ensures slice { dst.new ≡ overwrite dst.old (pack_picture rle width height (length dst.old) (map samples_in planes.now)).written }
 {
-    let checked = check_sources(r, g, b, a, layout, width, height);
-    let Packed::Written(n) = checked else {
-        return checked;
-    };
+    let sides = check_planes(planes, width, height)?;
     if rle {
-        let alpha = compress_next_plane(a, layout, Channel::A, dst, 0, width, height);
-        let Packed::Written(at) = alpha else {
-            return alpha;
-        };
-        return compress_colors(r, g, b, layout, dst, at, width, height);
+        return compress_planes(planes, dst, sides);
     }
-    if dst.len() <= 4 * n {
-        return Packed::Refused(Refusal::BufferTooSmall);
-    }
-    write_plane(a, layout, Channel::A, dst, 0, n);
-    write_colors(r, g, b, layout, dst, n, n);
-    Packed::Written(4 * n + 1)
+    write_planes(planes, dst, sides.area())
 }

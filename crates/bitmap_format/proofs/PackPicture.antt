@@ -145,7 +145,7 @@ module _ (rle : Bool) (w h room n : ℕ) (planes : List (List ℕ)) (e : check_p
   pack_picture_rle t = pack_picture_body ∙ ap (λ (b : Bool). pack_body b w h room planes) t
 
   module _ (t : rle ≡ false) where
-    pack_picture_all_or_nothing : pack_picture rle w h room planes ≡ write_all_or_nothing (raw_body (w * h) planes) room
+    pub pack_picture_all_or_nothing : pack_picture rle w h room planes ≡ write_all_or_nothing (raw_body (w * h) planes) room
     unfolding pack_body
     pack_picture_all_or_nothing = pack_picture_body ∙ ap (λ (b : Bool). pack_body b w h room planes) t
 
