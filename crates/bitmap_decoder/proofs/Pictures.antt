@@ -6,9 +6,9 @@ use mathlib.Core.List.{List}
 use native.Mathlib.Nat.{add-zero}
 use native.Mathlib.Omega.{arith}
 use lib.ListN.{length, drop, length-drop}
+use Rattle.std.specs.Prelude.{Result, Ok, Err}
+use Rattle.std.specs.Result.{IsErrAnd}
 use Rattle.rle_format.specs.declared.Refusal.{Refusal}
-use Rattle.rle_format.specs.declared.Unpacked.{Unpacked}
-use Rattle.rle_format.specs.declared.Unpacked.TheVariants.{Read, Refused}
 use Rattle.rle_format.specs.Answer.{Answer, counted, number, to_answer}
 use Rattle.rle_format.specs.Sides.{check_sides_of, AllowedSides}
 use Rattle.rle_format.proofs.Sides.{allowed_sides, check_sides_passes}
@@ -17,15 +17,14 @@ use Rattle.pixel_format.specs.declared.PixelFormat.{PixelFormat}
 use Rattle.pixel_format.specs.declared.PixelFormat.TheVariants.{Rgb24, FourBytes}
 use Rattle.pixel_format.specs.declared.PixelLayout.{PixelLayout}
 use Rattle.bitmap_format.specs.declared.BitmapStreamHeader.{BitmapStreamHeader}
-use Rattle.bitmap_format.specs.declared.Decoded.{Decoded}
-use Rattle.bitmap_format.specs.declared.Decoded.TheVariants.{Written}
 use Rattle.bitmap_format.specs.Planes.{alpha_planes_at, alpha_planes, planes_with_alpha_at}
 use Rattle.bitmap_format.specs.Pixels.{PixelForm, three_bytes, four_bytes, format_to_form, shown_alpha_size_of}
 use Rattle.bitmap_format.specs.Sizes.{sample_count_of, sum_over, min_body_size_of, colour_planes_size, alpha_offset_of, work_size_of, row_size, image_size_of}
 use Rattle.bitmap_format.specs.Image.{image_row, write_rows}
 use Rattle.bitmap_format.specs.Checks.{first_refusal_of}
 use Rattle.bitmap_format.specs.UnpackPlanes.{unpack_planes}
-use Rattle.bitmap_format.specs.Picture.{PictureOutcome, refused_picture, is_loss_level_invalid_of, picture_checks, check_picture, write_image, unpack_raw, image_from_work, unpack_rle, decoded_to_answer}
+use Rattle.bitmap_format.specs.Picture.{PictureOutcome, refused_picture, is_loss_level_invalid_of, picture_checks, check_picture, write_image, unpack_raw, image_from_work, unpack_rle}
+use Rattle.bitmap_format.proofs.Answer.{passed_up}
 use Rattle.bitmap_format.proofs.Checks.{sides_passed}
 use Rattle.bitmap_format.proofs.UnpackPicture.{rle_work_enough, raw_body_enough}
 use Rattle.bitmap_planes.proofs.PlaneSequence.{PlanesRead}
@@ -33,10 +32,10 @@ use Rattle.bitmap_image.specs.WritePlanes.{write_planes_of}
 use Rattle.bitmap_image.proofs.PlanesFit.{PlanesKnown, planes_written}
 
 -- what a function that unpacks a picture shows: its answer d, and the work area and the image after it
-abbrev pub PictureResult : (p : PictureOutcome) (work_after image_after : List ℕ) (d : Decoded) → Type 0
-PictureResult p work_after image_after d = (decoded_to_answer d ≡ p.answer) × ((work_after ≡ p.work) × (image_after ≡ p.image))
+abbrev pub PictureResult : (p : PictureOutcome) (work_after image_after : List ℕ) (d : Result ℕ Refusal) → Type 0
+PictureResult p work_after image_after d = (to_answer d ≡ p.answer) × ((work_after ≡ p.work) × (image_after ≡ p.image))
 
-pub result_cong : (p q : PictureOutcome) (work image : List ℕ) (d : Decoded) → p ≡ q → PictureResult q work image d → PictureResult p work image d
+pub result_cong : (p q : PictureOutcome) (work image : List ℕ) (d : Result ℕ Refusal) → p ≡ q → PictureResult q work image d → PictureResult p work image d
 result_cong p q work image d e l = rw e l
 
 length_suffix : (l : List ℕ) (from : ℕ) → length (suffix l from) ≡ length l - from
@@ -71,7 +70,7 @@ work_room three_bytes header w h offset room e l eo = let all = rle_work_enough 
 work_room (four_bytes p) header w h offset room e l eo = let all = rle_work_enough (four_bytes p) header w h room e l in record { colour = omega arith; alpha = omega arith }
 
 -- work is the work area after the planes, and r their answer
-module _ (form : PixelForm) (header : BitmapStreamHeader) (w h offset : ℕ) (at : offset ≡ alpha_offset_of form header w h) (body work₀ work image : List ℕ) (r : Unpacked)
+module _ (form : PixelForm) (header : BitmapStreamHeader) (w h offset : ℕ) (at : offset ≡ alpha_offset_of form header w h) (body work₀ work image : List ℕ) (r : Result ℕ Refusal)
     (u : PlanesRead (unpack_planes (planes_with_alpha_at offset header w h) work₀ body) work r) where
   from_planes : unpack_rle form header w h body work₀ image ≡ image_from_work form header w h work image (to_answer r)
   unfolding unpack_rle
@@ -79,23 +78,23 @@ module _ (form : PixelForm) (header : BitmapStreamHeader) (w h offset : ℕ) (at
       (λ i. image_from_work form header w h (unpack_planes (planes_with_alpha_at (sym at i) header w h) work₀ body).work image (unpack_planes (planes_with_alpha_at (sym at i) header w h) work₀ body).answer)
       ∙ (λ i. image_from_work form header w h (sym u.1 i) image (sym u.0 i))
 
-  pub rle_refused : (q : Refusal) → r ≡ Refused q → (d : Decoded) → decoded_to_answer d ≡ to_answer r → PictureResult (unpack_rle form header w h body work₀ image) work image d
+  pub rle_refused : (q : Refusal) → r ≡ Err q → (up : Result ℕ Refusal) → IsErrAnd up (λ (k : Refusal). k ≡ q) → PictureResult (unpack_rle form header w h body work₀ image) work image up
   unfolding image_from_work
-  rle_refused q e d ed =
+  rle_refused q e up is =
       let p : unpack_rle form header w h body work₀ image ≡ refused_picture work image (number q) = from_planes ∙ ap (λ (a : Answer). image_from_work form header w h work image a) (ap to_answer e) in
-      result_cong (unpack_rle form header w h body work₀ image) (refused_picture work image (number q)) work image d p (ed ∙ ap to_answer e, (refl, refl))
+      result_cong (unpack_rle form header w h body work₀ image) (refused_picture work image (number q)) work image up p (passed_up up q is, (refl, refl))
 
   -- the image is written from two parts of the work area: all of it, and alpha
-  pub rle_written : (n : ℕ) → r ≡ Read n → AllowedSides w h → is_loss_level_invalid_of header.color_plane_definition ≡ false → WorkRoom form header w h offset (length work)
+  pub rle_written : (n : ℕ) → r ≡ Ok n → AllowedSides w h → is_loss_level_invalid_of header.color_plane_definition ≡ false → WorkRoom form header w h offset (length work)
       → image_size_of form w h ≤ length image → (after : List ℕ) → after ≡ write_planes_of form header w h (suffix work 0) (suffix work offset) image → (size : ℕ)
-      → size ≡ check_sides_of (λ (_ : ℕ). 0) w h (image_size_of form w h) → PictureResult (unpack_rle form header w h body work₀ image) work after (Written size)
+      → size ≡ check_sides_of (λ (_ : ℕ). 0) w h (image_size_of form w h) → PictureResult (unpack_rle form header w h body work₀ image) work after (Ok size)
   unfolding image_from_work write_image
   rle_written n e s loss room fits after ea size es =
       let p : unpack_rle form header w h body work₀ image ≡ write_image form header w h work (drop (alpha_offset_of form header w h) work) work image =
       from_planes ∙ ap (λ (a : Answer). image_from_work form header w h work image a) (ap to_answer e) in
       let known : PlanesKnown form header w h (length (suffix work 0)) (length (suffix work offset)) (length image) =
       record { sides = s; image_room = fits; planes_room = omega (arith, length_suffix work 0, room.colour); alpha_room = omega (arith, length_suffix work offset, room.alpha); loss = loss } in
-      result_cong (unpack_rle form header w h body work₀ image) (write_image form header w h work (drop (alpha_offset_of form header w h) work) work image) work after (Written size) p (
+      result_cong (unpack_rle form header w h body work₀ image) (write_image form header w h work (drop (alpha_offset_of form header w h) work) work image) work after (Ok size) p (
         ap counted (es ∙ check_sides_passes (λ (_ : ℕ). 0) w h (image_size_of form w h) s),
         (
           refl,
@@ -144,7 +143,7 @@ raw_rows form header w h start body image after e s loss long fits es ea =
     write_rows (row_size form w)
     (image_row form header.color_plane_definition header.use_alpha w h ((suffix_drop body start ∙ ap (λ (k : ℕ). drop k body) es) i) (suffix_drop body 0 i)) h image)
 
-pub raw_written : (form : PixelForm) (header : BitmapStreamHeader) (w h n : ℕ) (body work image after : List ℕ) (d : Decoded) → decoded_to_answer d ≡ counted n → n ≡ image_size_of form w h
+pub raw_written : (form : PixelForm) (header : BitmapStreamHeader) (w h n : ℕ) (body work image after : List ℕ) (d : Result ℕ Refusal) → to_answer d ≡ counted n → n ≡ image_size_of form w h
     → after
     ≡ write_rows (row_size form w)
     (image_row form header.color_plane_definition header.use_alpha w h (drop (sum_over sample_count_of (alpha_planes header.use_alpha w h)) body) body) h image

@@ -2,68 +2,52 @@
 #![tactic(auto)]
 
 ghost use Rattle.std.specs.Prelude.{◌≡◌, true, false, ◌≤◌, length, drop};
-ghost use Rattle.rle_format.specs.Sides.{AllowedSides};
 ghost use Rattle.rle_format.specs.Answer.{to_answer};
 ghost use Rattle.pixel_format.specs.Channel.{channel_offsets};
 ghost use Rattle.bitmap_format.specs.Planes.{alpha_planes};
 ghost use Rattle.bitmap_format.specs.Pixels.{format_to_form};
 ghost use Rattle.bitmap_format.specs.Sizes.{sample_count_of, sum_over, min_body_size_of, alpha_offset_of, work_size_of, row_size, image_size_of};
 ghost use Rattle.bitmap_format.specs.Image.{image_row, write_rows};
-ghost use Rattle.bitmap_format.specs.Picture.{is_loss_level_invalid_of, unpack_rle, unpack_to, unpack_picture, unpack_pixels, decoded_to_answer};
+ghost use Rattle.bitmap_format.specs.Picture.{unpack_rle, unpack_to, unpack_picture, unpack_pixels};
 
 use bitmap_checks::first_refusal;
-use bitmap_format::{BitmapStreamHeader, Decoded, color_planes_size, image_size};
+use bitmap_format::{BitmapStreamHeader, Picture, color_planes_size, image_size};
 use bitmap_image::write_planes;
 use bitmap_planes::decompress_planes;
 use pixel_format::{PixelFormat, PixelLayout};
-use rle_format::Unpacked;
-
-// The refusal of a plane as the answer of its picture.
-fn planes_refusal(answer: Unpacked) -> Decoded
-    ensures { decoded_to_answer result ≡ to_answer answer }
-{
-    match answer {
-        Unpacked::Refused(reason) => Decoded::Refused(reason),
-        Unpacked::Read(read) => Decoded::Written(read),
-    }
-}
+use rle_format::Refusal;
 
 // Where alpha is in the work area of an RLE picture: behind the colour planes if the pixels show it, else at the start.
-fn alpha_offset(
-    format: PixelFormat,
-    header: BitmapStreamHeader,
-    width: usize,
-    height: usize,
-) -> usize
-    requires { AllowedSides width height }
-    ensures { result ≡ alpha_offset_of (format_to_form format) header width height }
+fn alpha_offset(picture: Picture) -> usize
+    ensures { result ≡ alpha_offset_of (format_to_form picture.format) picture.header picture.width picture.height }
 {
-    let PixelFormat::FourBytes(_) = format else {
+    let PixelFormat::FourBytes(_) = picture.format else {
         return 0;
     };
-    color_planes_size(header, width, height)
+    color_planes_size(picture.header, picture.width, picture.height)
 }
 
 // Unpacks an RLE picture that passed all checks. The image is written after the last plane is read, so that no refusal changes it.
 fn decode_rle(
-    format: PixelFormat,
-    header: BitmapStreamHeader,
+    picture: Picture,
     body: &[u8],
     work: &mut [u8],
     image: &mut [u8],
-    width: usize,
-    height: usize,
-) -> Decoded
-    requires { (header.enable_rle_compression ≡ true) × AllowedSides width height × (is_loss_level_invalid_of header.color_plane_definition ≡ false) × (work_size_of (format_to_form format) header width height ≤ length work.old) × (image_size_of (format_to_form format) width height ≤ length image.old) }
-    ensures answer { decoded_to_answer result ≡ (unpack_rle (format_to_form format) header width height body.now work.old image.old).answer }
-    ensures work { work.new ≡ (unpack_rle (format_to_form format) header width height body.now work.old image.old).work }
-    ensures image { image.new ≡ (unpack_rle (format_to_form format) header width height body.now work.old image.old).image }
+) -> Result<usize, Refusal>
+    requires { (picture.header.enable_rle_compression ≡ true) × (work_size_of (format_to_form picture.format) picture.header picture.width picture.height ≤ length work.old) × (image_size_of (format_to_form picture.format) picture.width picture.height ≤ length image.old) }
+    ensures answer { to_answer result ≡ (unpack_rle (format_to_form picture.format) picture.header picture.width picture.height body.now work.old image.old).answer }
+    ensures work { work.new ≡ (unpack_rle (format_to_form picture.format) picture.header picture.width picture.height body.now work.old image.old).work }
+    ensures image { image.new ≡ (unpack_rle (format_to_form picture.format) picture.header picture.width picture.height body.now work.old image.old).image }
 {
-    let offset = alpha_offset(format, header, width, height);
-    let answer = decompress_planes(header, offset, body, work, width, height);
-    let Unpacked::Read(_) = answer else {
-        return planes_refusal(answer);
-    };
+    let Picture {
+        format,
+        header,
+        width,
+        height,
+        ..
+    } = picture;
+    let offset = alpha_offset(picture);
+    decompress_planes(header, offset, body, work, width, height)?;
     write_planes(
         format,
         header,
@@ -73,33 +57,32 @@ fn decode_rle(
         width,
         height,
     );
-    Decoded::Written(image_size(format, width, height))
+    Ok(image_size(format, width, height))
 }
 
 // The size of alpha in a raw body.
-fn alpha_size(alpha: bool, width: usize, height: usize) -> usize
-    requires { AllowedSides width height }
-    ensures { result ≡ sum_over sample_count_of (alpha_planes alpha width height) }
+fn alpha_size(picture: Picture) -> usize
+    ensures { result ≡ sum_over sample_count_of (alpha_planes picture.header.use_alpha picture.width picture.height) }
 {
-    if alpha {
-        return width * height;
+    if picture.header.use_alpha {
+        return picture.width * picture.height;
     }
     0
 }
 
 // Unpacks a raw picture that passed all checks, from its planes in the body: alpha, if flagged, and the colour planes behind it.
-fn decode_raw(
-    format: PixelFormat,
-    header: BitmapStreamHeader,
-    body: &[u8],
-    image: &mut [u8],
-    width: usize,
-    height: usize,
-)
-    requires { (header.enable_rle_compression ≡ false) × AllowedSides width height × (is_loss_level_invalid_of header.color_plane_definition ≡ false) × (min_body_size_of header width height ≤ length body.now) × (image_size_of (format_to_form format) width height ≤ length image.old) }
-    ensures { image.new ≡ write_rows (row_size (format_to_form format) width) (image_row (format_to_form format) header.color_plane_definition header.use_alpha width height (drop (sum_over sample_count_of (alpha_planes header.use_alpha width height)) body.now) body.now) height image.old }
+fn decode_raw(picture: Picture, body: &[u8], image: &mut [u8])
+    requires { (picture.header.enable_rle_compression ≡ false) × (min_body_size_of picture.header picture.width picture.height ≤ length body.now) × (image_size_of (format_to_form picture.format) picture.width picture.height ≤ length image.old) }
+    ensures { image.new ≡ write_rows (row_size (format_to_form picture.format) picture.width) (image_row (format_to_form picture.format) picture.header.color_plane_definition picture.header.use_alpha picture.width picture.height (drop (sum_over sample_count_of (alpha_planes picture.header.use_alpha picture.width picture.height)) body.now) body.now) picture.height image.old }
 {
-    let start = alpha_size(header.use_alpha, width, height);
+    let Picture {
+        format,
+        header,
+        width,
+        height,
+        ..
+    } = picture;
+    let start = alpha_size(picture);
     write_planes(
         format,
         header,
@@ -121,12 +104,12 @@ pub fn decode_to(
     image: &mut [u8],
     width: usize,
     height: usize,
-) -> Decoded
-    ensures answer { decoded_to_answer result ≡ (unpack_to (format_to_form format) header width height body.now work.old image.old).answer }
+) -> Result<usize, Refusal>
+    ensures answer { to_answer result ≡ (unpack_to (format_to_form format) header width height body.now work.old image.old).answer }
     ensures work { work.new ≡ (unpack_to (format_to_form format) header width height body.now work.old image.old).work }
     ensures image { image.new ≡ (unpack_to (format_to_form format) header width height body.now work.old image.old).image }
 {
-    let answer = first_refusal(
+    let size = first_refusal(
         format,
         header,
         width,
@@ -134,15 +117,18 @@ pub fn decode_to(
         body.len(),
         work.len(),
         image.len(),
-    );
-    let Decoded::Written(_) = answer else {
-        return answer;
+    )?;
+    let picture = Picture {
+        format,
+        header,
+        width,
+        height,
     };
     if header.enable_rle_compression {
-        return decode_rle(format, header, body, work, image, width, height);
+        return decode_rle(picture, body, work, image);
     }
-    decode_raw(format, header, body, image, width, height);
-    answer
+    decode_raw(picture, body, image);
+    Ok(size)
 }
 
 // The same to three-byte pixels, R, G and B: the first 3 × width × height bytes of the image.
@@ -153,8 +139,8 @@ pub fn decode(
     image: &mut [u8],
     width: usize,
     height: usize,
-) -> Decoded
-    ensures answer { decoded_to_answer result ≡ (unpack_picture header width height body.now work.old image.old).answer }
+) -> Result<usize, Refusal>
+    ensures answer { to_answer result ≡ (unpack_picture header width height body.now work.old image.old).answer }
     ensures work { work.new ≡ (unpack_picture header width height body.now work.old image.old).work }
     ensures image { image.new ≡ (unpack_picture header width height body.now work.old image.old).image }
 {
@@ -172,8 +158,8 @@ pub fn decode_pixels(
     image: &mut [u8],
     width: usize,
     height: usize,
-) -> Decoded
-    ensures answer { decoded_to_answer result ≡ (unpack_pixels (channel_offsets layout) header width height body.now work.old image.old).answer }
+) -> Result<usize, Refusal>
+    ensures answer { to_answer result ≡ (unpack_pixels (channel_offsets layout) header width height body.now work.old image.old).answer }
     ensures work { work.new ≡ (unpack_pixels (channel_offsets layout) header width height body.now work.old image.old).work }
     ensures image { image.new ≡ (unpack_pixels (channel_offsets layout) header width height body.now work.old image.old).image }
 {

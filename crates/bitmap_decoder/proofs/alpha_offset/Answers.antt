@@ -1,8 +1,8 @@
--- `alpha_offset`: by the form of the pixels. Assumes sides that are allowed.
+-- `alpha_offset`: by the form of the pixels. Assumes nothing.
 use Rattle.bitmap_decoder.proofs.Pictures.{offset_four}
 use Rattle.bitmap_decoder.proofs.alpha_offset.Goals as goal
 
 pub returns : goal.returns
 returns c =
-    let a = c.args in
-    offset_four a.format c.in-FourBytes.field-0 a.header a.width a.height c.color_planes_size.result c.in-FourBytes.is c.requires c.color_planes_size.ensures
+    let p = c.args.picture in
+    offset_four p.format c.in-FourBytes.field-0 p.header p.width p.height c.color_planes_size.result c.in-FourBytes.is p.allowed c.color_planes_size.ensures

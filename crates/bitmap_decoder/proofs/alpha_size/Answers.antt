@@ -2,8 +2,8 @@
 use Rattle.bitmap_decoder.proofs.Pictures.{alpha_flagged, alpha_absent}
 use Rattle.bitmap_decoder.proofs.alpha_size.Goals as goal
 
-pub returns-then-alpha : goal.returns-then-alpha
-returns-then-alpha c = alpha_flagged _ _ _ c.if-alpha.true
+pub returns-then-picture : goal.returns-then-picture
+returns-then-picture c = alpha_flagged _ _ _ c.if-picture.true
 
 pub returns : goal.returns
-returns c = alpha_absent _ _ _ c.if-alpha.false
+returns c = alpha_absent _ _ _ c.if-picture.false

@@ -8,8 +8,8 @@ use Rattle.bitmap_decoder.proofs.decode_raw.Goals.{After-alpha_size-start}
 -- alpha ends within the body
 start : (c : After-alpha_size-start) → c.alpha_size-start.result ≤ length c.args.body.now
 start c =
-    let a = c.args in
-    start_within a.header a.width a.height c.alpha_size-start.result (length a.body.now) c.requires.0 c.requires.3 c.alpha_size-start.ensures
+    let p = c.args.picture in
+    start_within p.header p.width p.height c.alpha_size-start.result (length c.args.body.now) c.requires.0 c.requires.1 c.alpha_size-start.ensures
 
 pub slice_bounds-write_planes-count : goal.slice_bounds-write_planes-count
 slice_bounds-write_planes-count c = start c
@@ -20,5 +20,6 @@ slice_bounds-write_planes-start c = omega (arith, start c)
 pub returns : goal.returns
 returns c =
     let a = c.args in
+    let p = c.args.picture in
     let z = c.alpha_size-start in
-    raw_rows (format_to_form a.format) a.header a.width a.height z.result a.body.now a.image.now c.write_planes.new.image c.requires.0 c.requires.1 c.requires.2 c.requires.3 c.requires.4 z.ensures c.write_planes.ensures
+    raw_rows (format_to_form p.format) p.header p.width p.height z.result a.body.now a.image.now c.write_planes.new.image c.requires.0 p.allowed p.level c.requires.1 c.requires.2 z.ensures c.write_planes.ensures

@@ -6,32 +6,33 @@ use Rattle.bitmap_decoder.proofs.decode_rle.Goals as goal
 use Rattle.bitmap_decoder.proofs.decode_rle.Goals.{After-alpha_offset-offset}
 
 -- the work area has room for the planes
-room : (c : After-alpha_offset-offset) → WorkRoom (format_to_form c.args.format) c.args.header c.args.width c.args.height c.alpha_offset-offset.result (length c.args.work.now)
+room : (c : After-alpha_offset-offset) → WorkRoom (format_to_form c.args.picture.format) c.args.picture.header c.args.picture.width c.args.picture.height c.alpha_offset-offset.result (length c.args.work.now)
 room c =
-    let a = c.args in
-    work_room (format_to_form a.format) a.header a.width a.height c.alpha_offset-offset.result (length a.work.now) c.requires.0 c.requires.3 c.alpha_offset-offset.ensures
+    let p = c.args.picture in
+    work_room (format_to_form p.format) p.header p.width p.height c.alpha_offset-offset.result (length c.args.work.now) c.requires.0 c.requires.1 c.alpha_offset-offset.ensures
 
-pub returns-in_default : goal.returns-in_default
-returns-in_default c =
+pub returns-in_err-decompress_planes : goal.returns-in_err-decompress_planes
+returns-in_err-decompress_planes c =
     let a = c.args in
-    let d = c.decompress_planes-answer in
+    let p = c.args.picture in
+    let d = c.decompress_planes in
     let o = c.alpha_offset-offset in
-    let r = rle_refused (format_to_form a.format) a.header a.width a.height o.result o.ensures a.body.now a.work.now d.new.work a.image.now d.result (d.ensures.answer, d.ensures.slice) c.in_default.field-0 c.in_default.is c.planes_refusal.result c.planes_refusal.ensures in
+    let r = rle_refused (format_to_form p.format) p.header p.width p.height o.result o.ensures a.body.now a.work.now d.new.work a.image.now d.result (d.ensures.answer, d.ensures.slice) _ c.in_err-decompress_planes.was _ c.from_residual.ensures.1 in
     record { answer = r.0; work = r.1.0; image = r.1.1 }
 
 pub slice_bounds-write_planes-count-2 : goal.slice_bounds-write_planes-count-2
-slice_bounds-write_planes-count-2 c = omega (arith, (room (goal.at.slice_bounds-write_planes-count-2 c).After-alpha_offset-offset).alpha, c.decompress_planes-answer.auto.work)
+slice_bounds-write_planes-count-2 c = omega (arith, (room (goal.at.slice_bounds-write_planes-count-2 c).After-alpha_offset-offset).alpha, c.decompress_planes.auto.work)
 
 pub slice_bounds-write_planes-start-2 : goal.slice_bounds-write_planes-start-2
-slice_bounds-write_planes-start-2 c = omega (arith, (room (goal.at.slice_bounds-write_planes-start-2 c).After-alpha_offset-offset).alpha, c.decompress_planes-answer.auto.work)
+slice_bounds-write_planes-start-2 c = omega (arith, (room (goal.at.slice_bounds-write_planes-start-2 c).After-alpha_offset-offset).alpha, c.decompress_planes.auto.work)
 
 pub returns : goal.returns
 returns c =
     let a = c.args in
-    let d = c.decompress_planes-answer in
+    let p = c.args.picture in
+    let d = c.decompress_planes in
     let o = c.alpha_offset-offset in
-    let s = c.requires in
     let m = room (goal.at.returns c).After-alpha_offset-offset in
-    let r = rle_written (format_to_form a.format) a.header a.width a.height o.result o.ensures a.body.now a.work.now d.new.work a.image.now d.result (d.ensures.answer, d.ensures.slice) c.in-Read.field-0 c.in-Read.is s.1 s.2
-    (record { colour = omega (arith, m.colour, d.auto.work); alpha = omega (arith, m.alpha, d.auto.work) }) s.4 c.write_planes.new.image c.write_planes.ensures c.image_size.result c.image_size.ensures in
+    let r = rle_written (format_to_form p.format) p.header p.width p.height o.result o.ensures a.body.now a.work.now d.new.work a.image.now d.result (d.ensures.answer, d.ensures.slice) _ c.in_ok-decompress_planes.was p.allowed p.level
+    (record { colour = omega (arith, m.colour, d.auto.work); alpha = omega (arith, m.alpha, d.auto.work) }) c.requires.2 c.write_planes.new.image c.write_planes.ensures c.image_size.result c.image_size.ensures in
     record { answer = r.0; work = r.1.0; image = r.1.1 }
