@@ -3,25 +3,29 @@
 use mathlib.Core.Path.{◌≡◌, refl, sym, ap, ◌∙◌}
 use mathlib.Core.Logic.{⊎_elim}
 use mathlib.Core.List.{List, [], ◌++◌, append-nil}
-use Prim.Native.Nat.{ℕ, ◌*◌, ◌-◌, ◌≤◌, ◌<◌, min}
+use Prim.Native.Nat.{ℕ, ◌-◌, ◌≤◌, ◌<◌, min}
 use native.Mathlib.Omega.{arith}
 use lib.ListN.{length, take, drop, get_or}
 use lib.Seq.{take-append-le, take_at, take_all}
 use Rattle.rle_format.specs.declared.Refusal.{Refusal}
-use Rattle.rle_format.specs.declared.Unpacked.{Unpacked}
+use Rattle.std.specs.Prelude.{true, Result, Ok, Err, is_ok}
 use Rattle.rle_format.specs.Answer.{Answer, counted, refused, number, to_answer}
 use Rattle.rle_format.specs.Slice.{overwrite}
 use Rattle.rle_format.specs.Pack.{packing, pack_plane}
-use Rattle.rle_format.specs.Unpack.{unpack_plane}
-use Rattle.rle_format.proofs.Answer.{number_injective, to_answer_injective}
+use Rattle.rle_format.proofs.Answer.{refused_not_counted, number_injective}
 use Rattle.rle_format.proofs.Cases.{le_or_gt}
 use Rattle.rle_format.proofs.PackPlane.{PackedComplete, packed_complete}
-use Rattle.rle_round_trip.specs.declared.RoundTrip.{RoundTrip}
-use Rattle.rle_round_trip.specs.declared.RoundTrip.TheVariants.{NotPacked, TooLong, Done}
-use Rattle.rle_round_trip.specs.Prefix.{ValidPlane, PackingPrefix, PrefixResult}
-use Rattle.rle_round_trip.specs.RoundTripResult.{UnpackResult, RoundTripResult}
+use Rattle.rle_round_trip.specs.declared.RoundTripError.{RoundTripError}
+use Rattle.rle_round_trip.specs.declared.RoundTripError.TheVariants.{NotPacked, TooLong, NotUnpacked}
+use Rattle.rle_round_trip.specs.Prefix.{ValidPlane, PackingPrefix}
+use Rattle.rle_round_trip.specs.RoundTripResult.{UnpackDone, UnpackResult, TripDone, RoundTripResult}
 use Rattle.rle_round_trip.proofs.Row.{take_beyond}
 use Rattle.rle_round_trip.proofs.Theorem.{prefix_theorem}
+
+-- a result that is not a refusal is a count
+pub count_of_ok : (r : Result ℕ Refusal) → is_ok r ≡ true → (n : ℕ) × (to_answer r ≡ counted n)
+count_of_ok (Ok n) e = (n, refl)
+count_of_ok (Err k) e = absurd cc
 
 module _ (width height : ℕ) (samples before packed : List ℕ) (are_bytes : (i : ℕ) → get_or samples i 0 < 256)
     (is : packed ≡ overwrite before (pack_plane width height (length before) samples).written) where
@@ -69,29 +73,20 @@ module _ (width height : ℕ) (samples before packed : List ℕ) (are_bytes : (i
         })
         (le_or_gt end N)
 
-    round_trip_done : (end : ℕ) (dst left : List ℕ) (u : Unpacked) → width * height ≤ length dst → UnpackResult width height packed end dst left (Done u)
-        → PrefixResult width height samples dst (min end n) left (to_answer u)
-    round_trip_done end dst left u room it =
-        rw (it.2, it.1) (prefix_theorem width height samples plane (min end n) (take end packed) (packing_prefix end) dst room)
+    trip_done : (end : ℕ) (dst left : List ℕ) (given : Answer) → UnpackDone width height packed end dst left given
+        → TripDone width height samples (pack_plane width height (length before) samples).answer packed end dst left given
+    trip_done end dst left given it = (
+      (n, made, whole.size, take_packed, λ room. rw (it.2, it.1) (prefix_theorem width height samples plane (min end n) (take end packed) (packing_prefix end) dst room)),
+      it,
+    )
 
   -- from what packing answered and what unpacking did
-  pub round_trip_result : (n end : ℕ) (dst left : List ℕ) (r : RoundTrip) → (pack_plane width height (length before) samples).answer ≡ counted n
+  pub round_trip_result : (n end : ℕ) (dst left : List ℕ) (r : Result ℕ RoundTripError) → (pack_plane width height (length before) samples).answer ≡ counted n
       → UnpackResult width height packed end dst left r → RoundTripResult width height samples (pack_plane width height (length before) samples).answer packed end dst left r
-  round_trip_result n end dst left (NotPacked k) made it = absurd it
-  round_trip_result n end dst left TooLong made it = ((n, made), it)
-  round_trip_result n end dst left (Done u) made it = ((n, made, (whole n made).size, take_packed n made, λ room. round_trip_done n made end dst left u room it), it)
-
--- the part that is passed is the first `end` bytes
-pub unpacked_prefix : (width height : ℕ) (packed : List ℕ) (end : ℕ) (dst left : List ℕ) (u : Unpacked) → end ≤ length packed
-    → to_answer u ≡ (unpack_plane width height (length dst) (take (end - 0) (drop 0 packed))).answer
-    → left ≡ overwrite dst (unpack_plane width height (length dst) (take (end - 0) (drop 0 packed))).written
-    → UnpackResult width height packed end dst left (Done u)
-unpacked_prefix width height packed end dst left u h a l =
-    let z : end - 0 ≡ end = omega arith in (
-      h,
-      a ∙ ap (λ (k : ℕ). (unpack_plane width height (length dst) (take k packed)).answer) z,
-      l ∙ ap (λ (k : ℕ). overwrite dst (unpack_plane width height (length dst) (take k packed)).written) z,
-    )
+  round_trip_result n end dst left (Ok m) made it = trip_done n made end dst left (counted m) it
+  round_trip_result n end dst left (Err (NotPacked k)) made it = absurd it
+  round_trip_result n end dst left (Err TooLong) made it = ((n, made), it)
+  round_trip_result n end dst left (Err (NotUnpacked k)) made it = trip_done n made end dst left (refused (number k)) it
 
 -- ---- one answer, one destination
 
@@ -99,17 +94,39 @@ module _ (width height : ℕ) (samples : List ℕ) (made : Answer) (packed : Lis
   refused_and_counted : {X : Type 0} (k n : ℕ) → made ≡ refused k → made ≡ counted n → X
   refused_and_counted k n a b = let z : ◌≡◌ {A = ℕ} 0 1 = cc (a, b) in absurd (omega arith)
 
-  pub round_trip_determined : (left other : List ℕ) (r s : RoundTrip) → RoundTripResult width height samples made packed end dst left r → RoundTripResult width height samples made packed end dst other s
-      → (r ≡ s) × (left ≡ other)
-  round_trip_determined left other (NotPacked k) (NotPacked j) p q =
+  -- two answers of unpacking are the same
+  same_given : (left other : List ℕ) (given again : Answer) → TripDone width height samples made packed end dst left given → TripDone width height samples made packed end dst other again
+      → (given ≡ again) × (left ≡ other)
+  same_given left other given again p q = (p.1.1 ∙ sym q.1.1, p.1.2 ∙ sym q.1.2)
+
+  -- unpacking is not begun if the slice is too short
+  not_begun : {X : Type 0} (left other : List ℕ) (given : Answer) → TripDone width height samples made packed end dst left given
+      → RoundTripResult width height samples made packed end dst other (Err TooLong) → X
+  not_begun left other given p q = let a = p.1.0 in let b = q.1.0 in absurd (omega arith)
+
+  pub round_trip_determined : (left other : List ℕ) (r s : Result ℕ RoundTripError) → RoundTripResult width height samples made packed end dst left r
+      → RoundTripResult width height samples made packed end dst other s → (r ≡ s) × (left ≡ other)
+  round_trip_determined left other (Ok n) (Ok m) p q =
+      let same = same_given left other (counted n) (counted m) p q in
+      let e : n ≡ m = cc same.0 in
+      (ap (λ (k : ℕ). Ok k) e, same.1)
+  round_trip_determined left other (Ok n) (Err (NotPacked k)) p q = refused_and_counted (number k) p.0.0 q.0 p.0.1
+  round_trip_determined left other (Ok n) (Err TooLong) p q = not_begun left other (counted n) p q
+  round_trip_determined left other (Ok n) (Err (NotUnpacked k)) p q = refused_not_counted (sym (same_given left other (counted n) (refused (number k)) p q).0)
+  round_trip_determined left other (Err (NotPacked k)) (Ok n) p q = refused_and_counted (number k) q.0.0 p.0 q.0.1
+  round_trip_determined left other (Err (NotPacked k)) (Err (NotPacked j)) p q =
       let same : number k ≡ number j = cc (p.0, q.0) in
-      (ap (λ (r : Refusal). NotPacked r) (number_injective k j same), p.1 ∙ sym q.1)
-  round_trip_determined left other (NotPacked k) TooLong p q = refused_and_counted (number k) q.0.0 p.0 q.0.1
-  round_trip_determined left other (NotPacked k) (Done u) p q = refused_and_counted (number k) q.0.0 p.0 q.0.1
-  round_trip_determined left other TooLong (NotPacked k) p q = refused_and_counted (number k) p.0.0 q.0 p.0.1
-  round_trip_determined left other TooLong TooLong p q = (refl, p.1.1 ∙ sym q.1.1)
-  round_trip_determined left other TooLong (Done u) p q = let a = p.1.0 in let b = q.1.0 in absurd (omega arith)
-  round_trip_determined left other (Done u) (NotPacked k) p q = refused_and_counted (number k) p.0.0 q.0 p.0.1
-  round_trip_determined left other (Done u) TooLong p q = let a = p.1.0 in let b = q.1.0 in absurd (omega arith)
-  round_trip_determined left other (Done u) (Done v) p q =
-      (ap (λ (t : Unpacked). Done t) (to_answer_injective u v (p.1.1 ∙ sym q.1.1)), p.1.2 ∙ sym q.1.2)
+      (ap (λ (r : Refusal). Err (NotPacked r)) (number_injective k j same), p.1 ∙ sym q.1)
+  round_trip_determined left other (Err (NotPacked k)) (Err TooLong) p q = refused_and_counted (number k) q.0.0 p.0 q.0.1
+  round_trip_determined left other (Err (NotPacked k)) (Err (NotUnpacked j)) p q = refused_and_counted (number k) q.0.0 p.0 q.0.1
+  round_trip_determined left other (Err TooLong) (Ok n) p q = not_begun other left (counted n) q p
+  round_trip_determined left other (Err TooLong) (Err (NotPacked k)) p q = refused_and_counted (number k) p.0.0 q.0 p.0.1
+  round_trip_determined left other (Err TooLong) (Err TooLong) p q = (refl, p.1.1 ∙ sym q.1.1)
+  round_trip_determined left other (Err TooLong) (Err (NotUnpacked k)) p q = not_begun other left (refused (number k)) q p
+  round_trip_determined left other (Err (NotUnpacked k)) (Ok n) p q = refused_not_counted (same_given left other (refused (number k)) (counted n) p q).0
+  round_trip_determined left other (Err (NotUnpacked k)) (Err (NotPacked j)) p q = refused_and_counted (number j) p.0.0 q.0 p.0.1
+  round_trip_determined left other (Err (NotUnpacked k)) (Err TooLong) p q = not_begun left other (refused (number k)) p q
+  round_trip_determined left other (Err (NotUnpacked k)) (Err (NotUnpacked j)) p q =
+      let same = same_given left other (refused (number k)) (refused (number j)) p q in
+      let e : number k ≡ number j = cc same.0 in
+      (ap (λ (r : Refusal). Err (NotUnpacked r)) (number_injective k j e), same.1)

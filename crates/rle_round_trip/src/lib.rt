@@ -9,16 +9,17 @@ ghost use Rattle.rle_round_trip.specs.RoundTripResult.{UnpackResult, RoundTripRe
 
 use rle_decoder::decompress_8bpp_plane;
 use rle_encoder::compress_8bpp_plane;
-use rle_format::{Packed, Refusal, Unpacked};
+use rle_format::Refusal;
 
-#[derive(Clone, Copy)]
-pub enum RoundTrip {
+// Why a round trip has no number of bytes that were read.
+#[derive(Clone, Copy, PartialEq, Eq)]
+pub enum RoundTripError {
     // packing was refused
     NotPacked(Refusal),
     // the slice that it was packed into is shorter than `end`
     TooLong,
-    // the answer of unpacking
-    Done(Unpacked),
+    // unpacking was refused
+    NotUnpacked(Refusal),
 }
 
 // Unpacks a plane from the first `end` bytes of packed.
@@ -28,14 +29,11 @@ fn unpack_prefix(
     dst: &mut [u8],
     width: usize,
     height: usize,
-) -> RoundTrip
+) -> Result<usize, RoundTripError>
     ensures { UnpackResult width height packed.now end dst.old dst.new result }
 {
-    if packed.len() < end {
-        return RoundTrip::TooLong;
-    }
-    let answer = decompress_8bpp_plane(&packed[0..end], dst, width, height);
-    RoundTrip::Done(answer)
+    let prefix = packed.get(..end).ok_or(RoundTripError::TooLong)?;
+    decompress_8bpp_plane(prefix, dst, width, height).map_err(RoundTripError::NotUnpacked)
 }
 
 // Packs the first width × height bytes of src into packed, and unpacks the first `end` bytes of that slice into dst: a truncated packing if `end` is
@@ -47,12 +45,10 @@ pub fn round_trip(
     dst: &mut [u8],
     width: usize,
     height: usize,
-) -> RoundTrip
+) -> Result<usize, RoundTripError>
     ensures packed { packed.new ≡ overwrite packed.old (pack_plane width height (length packed.old) src.now).written }
     ensures trip { RoundTripResult width height src.now (pack_plane width height (length packed.old) src.now).answer packed.new end dst.old dst.new result }
 {
-    match compress_8bpp_plane(src, packed, width, height) {
-        Packed::Refused(reason) => RoundTrip::NotPacked(reason),
-        Packed::Written(_) => unpack_prefix(packed, end, dst, width, height),
-    }
+    compress_8bpp_plane(src, packed, width, height).map_err(RoundTripError::NotPacked)?;
+    unpack_prefix(packed, end, dst, width, height)
 }
