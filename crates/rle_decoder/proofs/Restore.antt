@@ -8,51 +8,51 @@ use Rattle.rle_format.proofs.Delta.{length_zip_with, get_or_zip_with}
 use Rattle.rle_decoder.specs.Rows.{row_above}
 
 -- the samples of the row below the first row of d
-unfoldable pub below : (d codes : List ℕ) (w : ℕ) → List ℕ
-below d codes w = zip_with undo_delta (take w d) (take w codes)
+unfoldable pub below : (d codes : List ℕ) → List ℕ
+below d codes = zip_with undo_delta (take (length codes) d) codes
 
-pub length_below : (d codes : List ℕ) (w : ℕ) → w ≤ length d → w ≤ length codes → length (below d codes w) ≡ w
+pub length_below : (d codes : List ℕ) → length codes ≤ length d → length (below d codes) ≡ length codes
 unfolding below
-length_below d codes w h k =
-    let a : length (take w d) ≡ w = simp length-take (omega arith) in
-    let b : length (take w codes) ≡ w = simp length-take (omega arith) in
-    length_zip_with undo_delta (take w d) (take w codes) (a ∙ sym b) ∙ b
+length_below d codes h =
+    let a : length (take (length codes) d) ≡ length codes = simp length-take (omega arith) in
+    length_zip_with undo_delta (take (length codes) d) codes a
 
 -- one iteration. now is the slice at the loop's head
-pub below_more : (d now codes : List ℕ) (w i v : ℕ) → w + w ≤ length d → w ≤ length codes → i < w → now ≡ write_at d w (take i (below d codes w))
-    → v ≡ undo_delta (get_or now i 0) (get_or codes i 0) → set now (w + i) v ≡ write_at d w (take (i + 1) (below d codes w))
+pub below_more : (d now codes : List ℕ) (i v : ℕ) → length codes + length codes ≤ length d → i < length codes → now ≡ write_at d (length codes) (take i (below d codes))
+    → v ≡ undo_delta (get_or now i 0) (get_or codes i 0) → set now (length codes + i) v ≡ write_at d (length codes) (take (i + 1) (below d codes))
 unfolding below
-below_more d now codes w i v h m l e ev =
-    let S : List ℕ = below d codes w in
-    let long = length_below d codes w (omega arith) m in
+below_more d now codes i v h l e ev =
+    let w : ℕ = length codes in
+    let S : List ℕ = below d codes in
+    let long = length_below d codes (omega arith) in
     let a : i < length (take w d) = simp length-take (omega arith) in
-    let b : i < length (take w codes) = simp length-take (omega arith) in
     let n : length (take i S) ≡ i = simp length-take (omega arith) in
     let upper : get_or now i 0 ≡ get_or d i 0 = rw e (get_or-write_at_before d w i (take i S) l (omega arith)) in
     let is : v ≡ get_or S i 0 =
     ev ∙ (λ j. undo_delta (upper j) (get_or codes i 0))
-    ∙ sym (get_or_zip_with undo_delta (take w d) (take w codes) i a b ∙ (λ j. undo_delta (get_or-take w d i 0 l j) (get_or-take w codes i 0 l j))) in
+    ∙ sym (get_or_zip_with undo_delta (take w d) codes i a l ∙ (λ j. undo_delta (get_or-take w d i 0 l j) (get_or codes i 0))) in
     let room : w + length (take i S) < length d = omega arith in
     (λ j. set (e j) (w + sym n j) (is j))
     ∙ write_at_snoc d w (take i S) (get_or S i 0) room
     ∙ ap (write_at d w) (sym (rw (add-one, take-suc S i 0 (omega arith))))
 
 -- the first row
-pub restore_first : (d now codes : List ℕ) (start w : ℕ) → start ≡ 0 → now ≡ overwrite d (take w codes) → now ≡ write_at d start (restore_row_of (row_above d start w) (take w codes))
-restore_first d now codes start w e wrote = rw e (wrote ∙ sym (write_at_0 d (take w codes)))
+pub restore_first : (d now codes : List ℕ) (start : ℕ) → start ≡ 0 → now ≡ overwrite d codes → now ≡ write_at d start (restore_row_of (row_above d start (length codes)) codes)
+restore_first d now codes start e wrote = rw e (wrote ∙ sym (write_at_0 d codes))
 
 -- a row below another: ys is the slice from the row above on
-pub restore_below : (d ys codes : List ℕ) (start w : ℕ) → (start ≡ 0 → ⊥) → w ≤ start
-    → ys ≡ write_at (suffix d (start - w)) w (zip_with undo_delta (take w (suffix d (start - w))) (take w codes))
-    → replace_suffix d (start - w) ys ≡ write_at d start (restore_row_of (row_above d start w) (take w codes))
-restore_below d ys codes start w not_first h wrote =
+pub restore_below : (d ys codes : List ℕ) (start : ℕ) → (start ≡ 0 → ⊥) → length codes ≤ start
+    → ys ≡ write_at (suffix d (start - length codes)) (length codes) (zip_with undo_delta (take (length codes) (suffix d (start - length codes))) codes)
+    → replace_suffix d (start - length codes) ys ≡ write_at d start (restore_row_of (row_above d start (length codes)) codes)
+restore_below d ys codes start not_first h wrote =
+    let w : ℕ = length codes in
     let a : ℕ = start - w in
     let sum : a + w ≡ start = omega arith in
     let up : take w (suffix d a) ≡ drop a (take start d) = ap (take w) (suffix_drop d a) ∙ take-drop_swap d a w ∙ ap (λ (n : ℕ). drop a (take n d)) sum in
-    suffix_write_at d ys (zip_with undo_delta (take w (suffix d a)) (take w codes)) a w wrote
-    ∙ (λ i. write_at d (sum i) (zip_with undo_delta (up i) (take w codes)))
+    suffix_write_at d ys (zip_with undo_delta (take w (suffix d a)) codes) a w wrote
+    ∙ (λ i. write_at d (sum i) (zip_with undo_delta (up i) codes))
     ∙ go start not_first
   where
-    go : (n : ℕ) → (n ≡ 0 → ⊥) → write_at d n (zip_with undo_delta (drop (n - w) (take n d)) (take w codes)) ≡ write_at d n (restore_row_of (row_above d n w) (take w codes))
+    go : (n : ℕ) → (n ≡ 0 → ⊥) → write_at d n (zip_with undo_delta (drop (n - length codes) (take n d)) codes) ≡ write_at d n (restore_row_of (row_above d n (length codes)) codes)
     go zero z = absurd (z refl)
     go (suc k) z = refl

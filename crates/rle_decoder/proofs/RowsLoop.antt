@@ -1,5 +1,5 @@
 -- The iterations of the loop of `decode`, on plain values. Assumes nothing.
-use Rattle.std.proofs.Common.{◌≡◌, ℕ, zero, suc, ◌+◌, ◌-◌, ◌*◌, ◌<◌, ◌≤◌, List, [], ◌++◌, length, take, drop, sym, refl, ap, ◌∙◌, add-zero, suc-mul, mul_comm, arith, length-drop, length-take, length-take-le, drop-drop, drop_at}
+use Rattle.std.proofs.Common.{◌≡◌, ℕ, zero, suc, ◌+◌, ◌-◌, ◌*◌, ◌<◌, ◌≤◌, List, [], ◌++◌, length, take, drop, sym, refl, ap, ◌∙◌, add-zero, suc-mul, mul_comm, arith, length-drop, length-take, drop-drop, drop_at}
 use mathlib.Core.Option.{none, some}
 use Rattle.rle_format.specs.Answer.{counted, refused, stop, add_count, prepend}
 use Rattle.rle_format.specs.Slice.{overwrite, write_at}
@@ -86,22 +86,16 @@ module _ (src d₀ d : List ℕ) (w h at start : ℕ) where
       pub within : at + m ≤ length src
       within = omega (arith, whole.within, length-drop at src, i.low)
 
-      -- the array has as many values as the row is wide
-      pub all_codes : (codes : List ℕ) (column : ℕ) → take column codes ≡ (coded_row src at w).written → column ≤ w → w ≤ length codes → take w codes ≡ (coded_row src at w).written
-      all_codes codes column e c l =
-          let n = length-take-le column codes (omega arith) in
-          let same : w ≡ column = omega (arith, whole.wide, ap length e) in
-          ap (λ (j : ℕ). take j codes) same ∙ e
-
       -- its samples are written
-      pub rows_step : (d' codes : List ℕ) → 0 < w → take w codes ≡ (coded_row src at w).written → d' ≡ write_at d start (restore_row_of (row_above d start w) (take w codes))
+      pub rows_step : (d' codes : List ℕ) → 0 < w → codes ≡ (coded_row src at w).written → d' ≡ write_at d start (restore_row_of (row_above d start (length codes)) codes)
           → RowsInvariant src d₀ d' w h (at + m) (start + w) k
       rows_step d' codes some_width held restored =
           let vs : List ℕ = (coded_row src at w).written in
           let S : List ℕ = restore_row_of (row_above d start w) vs in
           let into-row : start + w ≤ length d = omega (arith, row_fits, i.len) in
           let ls : length S ≡ w = restored_has_width w (row_above d start w) vs (above_has_width d start w i.above (omega arith)) whole.wide in
-          let is : d' ≡ write_at d start S = restored ∙ ap (λ (v : List ℕ). write_at d start (restore_row_of (row_above d start w) v)) held in
+          let wide : length codes ≡ w = ap length held ∙ whole.wide in
+          let is : d' ≡ write_at d start S = restored ∙ (λ j. write_at d start (restore_row_of (row_above d start (wide j)) (held j))) in
           let into : start + length S ≤ length d = omega arith in
           let c : start + length S ≡ start + w = omega arith in
           let front : take (start + w) d' ≡ take start d ++ S = rw (is, ← c) (take-write_at d start S into) in

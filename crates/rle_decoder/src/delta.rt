@@ -12,27 +12,28 @@ fn transformed_delta(delta: u8) -> u8
     if delta % 2 == 0 { half } else { 255 - half }
 }
 
-// The first width bytes of rows are samples, and the first width values of codes are the delta codes of the row below: writes that row's
-// samples behind the first row. The two rows are one slice, so that no slice has to be split.
-fn resolve_scanline_delta(codes: &[u8], rows: &mut [u8], width: usize)
-    requires { (width ≤ length codes.now) × (width + width ≤ length rows.old) }
-    ensures { rows.new ≡ write_at rows.old width (zip_with undo_delta (take width rows.old) (take width codes.now)) }
+// The first bytes of rows, as many as there are codes, are samples, and the codes are the delta codes of the row below: writes that row's samples
+// behind the first row. The two rows are one slice, so that no slice has to be split.
+fn resolve_scanline_delta(codes: &[u8], rows: &mut [u8])
+    requires { length codes.now + length codes.now ≤ length rows.old }
+    ensures { rows.new ≡ write_at rows.old (length codes.now) (zip_with undo_delta (take (length codes.now) rows.old) codes.now) }
 {
+    let width = codes.len();
     for i in 0..width {
         rows[width + i] = rows[i].wrapping_add(transformed_delta(codes[i]));
     }
 }
 
-// Writes the samples of the row that begins at index `start` of dst, from the first width values of codes and the row above. The first row has
-// none above it, and its values are the samples.
-pub(crate) fn restore_row(codes: &[u8], dst: &mut [u8], start: usize, width: usize)
-    requires { (width ≤ length codes.now) × (start + width ≤ length dst.old) × ((0 < start) → width ≤ start) }
-    ensures { dst.new ≡ write_at dst.old start (restore_row_of (row_above dst.old start width) (take width codes.now)) }
+// Writes the samples of the row that begins at index `start` of dst, from its codes and the row above. The first row has none above it, and its
+// codes are the samples.
+pub(crate) fn restore_row(codes: &[u8], dst: &mut [u8], start: usize)
+    requires { (start + length codes.now ≤ length dst.old) × ((0 < start) → length codes.now ≤ start) }
+    ensures { dst.new ≡ write_at dst.old start (restore_row_of (row_above dst.old start (length codes.now)) codes.now) }
 {
     if start == 0 {
-        dst[..width].copy_from_slice(&codes[..width]);
+        dst[..codes.len()].copy_from_slice(codes);
         return;
     }
-    let above = start - width;
-    resolve_scanline_delta(codes, &mut dst[above..], width);
+    let above = start - codes.len();
+    resolve_scanline_delta(codes, &mut dst[above..]);
 }

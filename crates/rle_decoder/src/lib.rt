@@ -47,7 +47,7 @@ fn decode(src: &[u8], dst: &mut [u8], sides: ValidSides, codes: &mut [u8]) -> Re
                 return Err(stop.reason);
             }
         }
-        restore_row(codes, dst, start, width);
+        restore_row(&codes[..width], dst, start);
         start += width;
     }
     Ok(at)

@@ -74,6 +74,7 @@ pub(crate) fn decode_last_segments(
     ensures within { coded_values width result ≤ width }
 {
     let mut row = so_far;
+    // no `for`, as in `decode_scanline`
     while row.column < width {
         let segment = decompress_last_segment(src, row, codes)?;
         row = row.after(segment, width)?;

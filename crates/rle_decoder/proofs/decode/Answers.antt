@@ -1,5 +1,5 @@
 -- `decode`: each refused row and each iteration by the laws of RowsLoop.antt. Assumes nothing.
-use Rattle.std.proofs.Common.{◌≡◌, ◌+◌, ◌-◌, length, sym, refl, ap, ◌∙◌, arith, length-take-le}
+use Rattle.std.proofs.Common.{◌≡◌, ◌+◌, ◌-◌, length, sym, refl, ap, ◌∙◌, arith, length-take-le, take}
 use native.Mathlib.Nat.{sub-zero}
 use Rattle.rle_format.specs.Answer.{number}
 use Rattle.rle_format.specs.Slice.{overwrite}
@@ -52,7 +52,7 @@ loop-preserved c =
     let e = c.in-Ok.ensures in
     let codes = c.decode_scanline.new.codes in
     let one = rows_one_left a.src.now a.dst.now l.dst w h l.at l.start l.counter l.invariant c.loop-test.true in
-    rows_step a.src.now a.dst.now l.dst w h l.at l.start left one c.in-Ok.read (sym e.answer) c.restore_row.new.dst codes (omega (arith, a.sides.allowed.some_width)) e.codes c.restore_row.ensures
+    rows_step a.src.now a.dst.now l.dst w h l.at l.start left one c.in-Ok.read (sym e.answer) c.restore_row.new.dst (take w codes) (omega (arith, a.sides.allowed.some_width)) e.codes c.restore_row.ensures
 
 pub returns : goal.returns
 returns c =

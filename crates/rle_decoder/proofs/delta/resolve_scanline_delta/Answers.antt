@@ -1,5 +1,5 @@
 -- `resolve_scanline_delta`: the iterations of its loop. Assumes nothing.
-use Rattle.std.proofs.Common.{◌≡◌, ℕ, ◌+◌, ◌%◌, get_or, sym, ap, ◌∙◌, arith, take_all}
+use Rattle.std.proofs.Common.{◌≡◌, ℕ, ◌+◌, ◌%◌, length, get_or, sym, ap, ◌∙◌, arith, take_all}
 use Rattle.rle_format.specs.Slice.{write_at}
 use Rattle.rle_format.specs.Delta.{undo_delta}
 use Rattle.rle_format.proofs.Slice.{write_at_nil}
@@ -16,11 +16,11 @@ loop-i-preserved c =
     let a = c.args in
     let v : (get_or l.rows l.i 0 + c.transformed_delta.result) % 256 ≡ undo_delta (get_or l.rows l.i 0) (get_or a.codes.now l.i 0) =
     ap (λ (d : ℕ). (get_or l.rows l.i 0 + d) % 256) c.transformed_delta.ensures in
-    below_more a.rows.now l.rows a.codes.now a.width l.i _ c.requires.1 c.requires.0 (omega arith) l.invariant v
+    below_more a.rows.now l.rows a.codes.now l.i _ c.requires (omega arith) l.invariant v
 
 pub returns : goal.returns
 unfolding below
 returns c =
     let l = c.loop-i in
     let a = c.args in
-    l.invariant ∙ ap (write_at a.rows.now a.width) (take_all l.i (below a.rows.now a.codes.now a.width) (omega (arith, length_below a.rows.now a.codes.now a.width (omega arith) c.requires.0)))
+    l.invariant ∙ ap (write_at a.rows.now (length a.codes.now)) (take_all l.i (below a.rows.now a.codes.now) (omega (arith, length_below a.rows.now a.codes.now (omega arith))))
