@@ -1,7 +1,8 @@
 -- The iterations of the loops of `decode_scanline` and `decode_last_segments`, on plain values. Assumes nothing.
 use Rattle.std.proofs.Common.{◌≡◌, ℕ, ◌+◌, ◌-◌, ◌<◌, ◌≤◌, List, ◌++◌, length, take, drop, sym, refl, ap, ◌∙◌, append-nil, add-zero, arith, length-take-le, take-take, drop-drop, take_at}
 use native.Mathlib.Nat.{sub_self, sub-zero}
-use Rattle.std.specs.Prelude.{Result, Err}
+use Rattle.std.specs.Prelude.{Result, Ok, Err, IsErrAnd}
+use Rattle.rle_format.specs.declared.Refusal.TheVariants.{SegmentDoNotFitScanline}
 use Rattle.rle_format.specs.Answer.{Answer, counted, refused, number, Outcome, stop, add_count, prepend}
 use Rattle.rle_format.specs.Segment.{last_byte_after, segment_values, value_count, segment_size, read_segment}
 use Rattle.rle_format.proofs.Outcome.{prepend_nil, prepend_prepend, answer_cong}
@@ -23,17 +24,17 @@ pub record RowInvariant (src a codes : List ℕ) (o : Outcome) (from width at co
 
 -- what a row leaves: its answer, and its values in the first places of the array
 abbrev pub Leaves : (o : Outcome) (codes : List ℕ) (width column : ℕ) → Answer → Type 0
-Leaves o codes width column answer = (answer ≡ o.answer) × ((take column codes ≡ o.written) × (column ≤ width))
+Leaves o codes width column given = record { answer : given ≡ o.answer; codes : take column codes ≡ o.written; within : column ≤ width }
 
 -- the same of what the code returns
 abbrev pub Returns : (o : Outcome) (codes : List ℕ) (width : ℕ) → Result ℕ StoppedRow → Type 0
 Returns o codes width r = Leaves o codes width (coded_values width r) (row_to_answer r)
 
-pub returns_stop : (o : Outcome) (codes : List ℕ) (width column k : ℕ) (r : Result ℕ StoppedRow) (stop : StoppedRow) → r ≡ Err stop → stop.column ≡ column → number stop.reason ≡ k
+-- a refusal that a `?` passes on
+returns_refusal : (o : Outcome) (codes : List ℕ) (width column k : ℕ) (r : Result ℕ StoppedRow) (why : StoppedRow) → IsErrAnd r (λ y. y ≡ why) → why.column ≡ column → number why.reason ≡ k
     → Leaves o codes width column (refused k) → Returns o codes width r
-returns_stop o codes width column k r stop is ec ek leaves =
-    let left : Leaves o codes width stop.column (refused (number stop.reason)) = rw (ec, ek) leaves in
-    rw is left
+returns_refusal o codes width column k (Ok n) why is ec ek left = absurd is
+returns_refusal o codes width column k (Err y) why is ec ek left = rw (is, ec, ek) left
 
 -- a row begins
 pub row_start : (src a : List ℕ) (from width : ℕ) → from ≤ length src → RowInvariant src a a (coded_row src from width) from width from 0 0
@@ -64,15 +65,15 @@ module _ (src a codes : List ℕ) (o : Outcome) (from width at column last : ℕ
   row_ends now kept r e =
       let w : o ≡ prepend (take column codes) (at - from) (stop r) = h.whole ∙ ap (prepend (take column codes) (at - from)) e in
       let v : o.written ≡ take column codes = ap (λ (p : Outcome). p.written) w ∙ append-nil (take column codes) in
-      (sym (answer_cong w), (kept ∙ sym v, h.within))
+      record { answer = sym (answer_cong w); codes = kept ∙ sym v; within = h.within }
 
   -- the row is full
-  pub row_full : width ≤ column → Leaves o codes width width (counted (at - from))
+  pub row_full : width ≤ column → Returns o codes width (Ok (at - from))
   row_full l =
       let same : width ≡ column = omega (arith, h.within) in
       let none : width - column ≡ 0 = omega (arith, h.within) in
       let ends = row_ends codes refl (counted 0) (rw none (row_from_full last (drop at src))) in
-      (sym (ap counted (add-zero (at - from))) ∙ ends.0, (ap (λ (k : ℕ). take k codes) same ∙ ends.1.0, omega arith))
+      record { answer = sym (ap counted (add-zero (at - from))) ∙ ends.answer; codes = ap (λ (k : ℕ). take k codes) same ∙ ends.codes; within = omega arith }
 
   -- the next segment, whose values stand behind the column of the array, which is then `now`
   module _ (some : column < width) (now : List ℕ) (appended : Appended codes now column (values_of last (read_segment (drop at src)))) where
@@ -85,18 +86,23 @@ module _ (src a codes : List ℕ) (o : Outcome) (from width at column last : ℕ
         ∙ take_at (take column codes) vs column (length-take-le column codes (omega (arith, h.len)))
 
     -- it is a refusal
-    pub row_refused : (r : ℕ) → refused_by r ≡ segment_answer last (read_segment (drop at src)) → Leaves o now width column (refused r)
-    row_refused r e =
-        row_ends now kept (refused r) (row_from_refused (width - column) last (drop at src) (omega arith) r (found_refusal r last (read_segment (drop at src)) e))
+    pub row_refused : (r : Result ℕ StoppedRow) (why : StoppedRow) → IsErrAnd r (λ y. y ≡ why) → why.column ≡ column
+        → refused_by (number why.reason) ≡ segment_answer last (read_segment (drop at src)) → Returns o now width r
+    row_refused r why is e answered =
+        let k : ℕ = number why.reason in
+        let left = row_ends now kept (refused k) (row_from_refused (width - column) last (drop at src) (omega arith) k (found_refusal k last (read_segment (drop at src)) answered)) in
+        returns_refusal o now width column k r why is e refl left
 
     module _ (raw run next : ℕ) (e : read raw run next ≡ segment_answer last (read_segment (drop at src))) where
       f : FoundSegment src at last raw run next
       f = found_segment src at last raw run next e
 
       -- it overruns the row
-      pub row_overruns : width < column + raw + run → Leaves o now width column (refused 9)
-      row_overruns wide =
-          row_ends now kept (refused 9) (row_from_overruns (width - column) last (drop at src) (omega arith) f.it f.found (omega (arith, f.raws, f.runs, h.within)))
+      pub row_overruns : (r : Result ℕ StoppedRow) (why : StoppedRow) → IsErrAnd r (λ y. y ≡ why) → why.column ≡ column → why.reason ≡ SegmentDoNotFitScanline
+          → width < column + raw + run → Returns o now width r
+      row_overruns r why is ec er wide =
+          let left = row_ends now kept (refused 9) (row_from_overruns (width - column) last (drop at src) (omega arith) f.it f.found (omega (arith, f.raws, f.runs, h.within))) in
+          returns_refusal o now width column 9 r why is ec (ap number er) left
 
       -- it fits
       pub row_step : length now ≡ length codes → column + raw + run ≤ width → RowInvariant src a now o from width (at + 1 + raw) (column + raw + run) next
