@@ -74,7 +74,7 @@ pub(crate) fn decode_last_segments(
     ensures within { coded_values width result ≤ width }
 {
     let mut row = so_far;
-    // no `for`, as in `decode_scanline`
+    // no `for`, as in `decode_scanline`; and no function for both loops, since each calls a reader of its own and only that one tests for the end
     while row.column < width {
         let segment = decompress_last_segment(src, row, codes)?;
         row = row.after(segment, width)?;
