@@ -1,5 +1,5 @@
 -- The rows of a plane, as the packer's outer loop goes through them.
-use Rattle.std.proofs.Common.{Result, ◌≡◌, ℕ, zero, suc, ◌+◌, ◌-◌, ◌*◌, ◌<◌, ◌≤◌, List, [], ◌++◌, length, take, drop, sym, refl, ap, ◌∙◌, append_assoc, append-nil, mul-le-mul_right, mul_comm, arith, length-drop, length-take-le, take_at}
+use Rattle.std.proofs.Common.{Result, ◌≡◌, ℕ, zero, suc, ◌+◌, ◌-◌, ◌*◌, ◌<◌, ◌≤◌, List, [], ◌++◌, length, take, drop, sym, refl, ap, ◌∙◌, append_assoc, append-nil, mul-le-mul_right, mul_comm, arith, length-drop, length-take-le, take_at, take_all}
 use Rattle.rle_format.specs.declared.Refusal.{Refusal}
 use Rattle.rle_format.specs.Slice.{overwrite}
 use Rattle.rle_format.specs.Delta.{delta_code, zip_with}
@@ -7,7 +7,8 @@ use Rattle.rle_format.specs.Segment.{Segment}
 use Rattle.rle_format.specs.Pack.{row_segments, row_at, codes_at, plane_segments}
 use Rattle.rle_format.proofs.Delta.{length_zip_with}
 use Rattle.rle_format.proofs.Slice.{overwrite_all}
-use Rattle.rle_encoder.specs.CodeRow.{code_row_of, HasRowAbove}
+use Rattle.pixel_format.specs.declared.Layout.{Layout}
+use Rattle.rle_encoder.specs.CodeRow.{code_row_of, HasRowAbove, KeepsRowAbove}
 use Rattle.rle_format.specs.Written.{answer_at, slice_at}
 use Rattle.rle_format.proofs.WriteLoop.{Wrote}
 
@@ -86,27 +87,29 @@ code_row-codes_at width samples (suc r) above h =
     let e : suc r - 1 ≡ r = omega arith in
     ap (λ (l : List ℕ). zip_with delta_code l (row_at width samples (suc r))) (h (omega arith) ∙ ap (row_at width samples) e)
 
--- two arrays after row r was read and coded: `got` was read into the first, which then became `new`, and the second became `sampled`
-pub row_coded : (width : ℕ) (samples : List ℕ) (r : ℕ) (above codes got new sampled : List ℕ) → width ≤ length above → width ≤ length codes
+-- two arrays after row r was read into the one, and coded, and kept in the other
+pub row_coded : (width : ℕ) (samples : List ℕ) (r : ℕ) (above codes got new sampled : List ℕ) → length above ≡ width → length codes ≡ width
     → r * width + width ≤ length samples → HasRowAbove width samples r above
-    → got ≡ overwrite (take width codes) (take (length (take width codes)) (drop (r * width) samples))
-    → new ≡ code_row_of r (take width above) (take width (got ++ drop width codes)) → sampled ≡ take width (got ++ drop width codes)
-    → (take width (new ++ drop width (got ++ drop width codes)) ≡ codes_at width samples r) × HasRowAbove width samples (r + 1) (sampled ++ drop width above)
+    → got ≡ overwrite codes (take (length codes) (drop (r * width) samples)) → new ≡ code_row_of r above got → sampled ≡ got
+    → (new ≡ codes_at width samples r) × HasRowAbove width samples (r + 1) sampled
 row_coded width samples r above codes got new sampled na nc h has eg en es =
     let long = length_row_at width samples r h in
-    let read : got ≡ row_at width samples r = read_row_lem width samples r (take width codes) got (length-take-le width codes nc) h eg in
-    let lent : take width (got ++ drop width codes) ≡ row_at width samples r = take_at got (drop width codes) width (ap length read ∙ long) ∙ read in
-    let up : length (take width above) ≡ length (row_at width samples r) = length-take-le width above na ∙ sym long in
-    let is : new ≡ code_row_of r (take width above) (row_at width samples r) = en ∙ ap (code_row_of r (take width above)) lent in
-    let ln : length new ≡ width = ap length is ∙ length-code_row r (take width above) (row_at width samples r) up ∙ long in
-    let ls : length sampled ≡ width = ap length (es ∙ lent) ∙ long in
-    let last : r ≡ r + 1 - 1 = omega arith in (
-      take_at new (drop width (got ++ drop width codes)) width ln ∙ is ∙ code_row-codes_at width samples r above has,
-      λ _. take_at sampled (drop width above) width ls ∙ es ∙ lent ∙ ap (row_at width samples) last,
+    let read : got ≡ row_at width samples r = read_row_lem width samples r codes got nc h eg in
+    let up : take width above ≡ above = take_all width above (omega arith) in
+    let last : r ≡ r + 1 - 1 = omega arith in
+    let kept : take width sampled ≡ sampled = take_all width sampled (omega (arith, ap length (es ∙ read))) in (
+      en ∙ (λ i. code_row_of r (sym up i) (read i)) ∙ code_row-codes_at width samples r above has,
+      λ _. kept ∙ es ∙ read ∙ ap (row_at width samples) last,
     )
 
+-- the row above stands in the array whose first bytes were lent
+pub keeps_row_above : (layout : Layout) (width : ℕ) (samples : List ℕ) (r : ℕ) (above rest : List ℕ) → length above ≡ width → KeepsRowAbove layout width samples r above
+    → KeepsRowAbove layout width samples r (above ++ rest)
+keeps_row_above layout width samples r above rest n keeps apart some = take_at above rest width n ∙ sym (take_all width above (omega arith)) ∙ keeps apart some
+
 -- the row that is packed is the row of the plane
-pub row_written : (width : ℕ) (samples : List ℕ) (r : ℕ) (codes : List ℕ) → take width codes ≡ codes_at width samples r → (d now : List ℕ) (to : ℕ) (answer : Result ℕ Refusal)
-    → Wrote (row_segments (take width codes)) d now to answer → Wrote (row_segments (codes_at width samples r)) d now to answer
-row_written width samples r codes row d now to answer w =
-    (w.0 ∙ ap (λ (l : List ℕ). answer_at (row_segments l) d to) row, w.1 ∙ ap (λ (l : List ℕ). slice_at (row_segments l) d to) row)
+pub row_written : (width : ℕ) (samples : List ℕ) (r : ℕ) (codes rest : List ℕ) → length codes ≡ width → codes ≡ codes_at width samples r → (d now : List ℕ) (to : ℕ) (answer : Result ℕ Refusal)
+    → Wrote (row_segments (take width (codes ++ rest))) d now to answer → Wrote (row_segments (codes_at width samples r)) d now to answer
+row_written width samples r codes rest n row d now to answer w =
+    let whole : take width (codes ++ rest) ≡ codes_at width samples r = take_at codes rest width n ∙ row in
+    (w.0 ∙ ap (λ (l : List ℕ). answer_at (row_segments l) d to) whole, w.1 ∙ ap (λ (l : List ℕ). slice_at (row_segments l) d to) whole)

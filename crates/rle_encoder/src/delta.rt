@@ -1,20 +1,21 @@
 // The coded values of a row (FORMAT 4.2). If a slice has the samples of one plane, the row above is read from the slice. The samples of a channel
 // in pixels are copied to an array once, and kept there for the row below.
-ghost use Rattle.std.specs.Prelude.{◌≡◌, ◌+◌, ◌*◌, ◌≤◌, length, take, drop};
+ghost use Rattle.std.specs.Prelude.{◌≡◌, ◌+◌, ◌*◌, length};
 ghost use Rattle.rle_format.specs.Delta.{delta_code, zip_with};
 ghost use Rattle.rle_format.specs.Pack.{codes_at};
 ghost use Rattle.pixel_format.specs.Samples.{samples_in};
 ghost use Rattle.rle_encoder.specs.CodeRow.{code_row_of, HasRowAbove, KeepsRowAbove};
 
-use pixel_format::{Layout, Samples};
+use crate::plane_row::PlaneRow;
+use pixel_format::Layout;
 
 // The code of the sample `next` below the sample `prev`: a small difference, up or down, has a small code. For a fall it is 2 × (255 − d) + 1,
 // which is 255 − 2 × d modulo 256: this form needs fewer vector instructions.
 fn delta_value(prev: u8, next: u8) -> u8
     ensures { result ≡ delta_code prev next }
 {
-    let d = std::num::wrapping_sub_u8(next, prev);
-    let twice = std::num::wrapping_add_u8(d, d);
+    let d = next.wrapping_sub(prev);
+    let twice = d.wrapping_add(d);
     if d < 128 { twice } else { 255 - twice }
 }
 
@@ -24,12 +25,10 @@ fn delta_row(above: &mut [u8], codes: &mut [u8])
     ensures codes { codes.new ≡ zip_with delta_code above.old codes.old }
     ensures above { above.new ≡ codes.old }
 {
-    let mut i = 0;
-    while i < codes.len() {
+    for i in 0..codes.len() {
         let sample = codes[i];
         codes[i] = delta_value(above[i], sample);
         above[i] = sample;
-        i += 1;
     }
 }
 
@@ -47,49 +46,53 @@ fn code_scanline(r: usize, above: &mut [u8], codes: &mut [u8])
     }
 }
 
-// The coded values of a row, from a slice that has the row above, then the row.
-fn delta_below(rows: &[u8], width: usize, codes: &mut [u8])
-    requires { (width + width ≤ length rows.now) × (width ≤ length codes.old) }
-    ensures { take width codes.new ≡ zip_with delta_code (take width rows.now) (take width (drop width rows.now)) }
+// The coded values of a row below another.
+fn delta_below(above: &[u8], row: &[u8], codes: &mut [u8])
+    requires { (length above.now ≡ length codes.old) × (length row.now ≡ length codes.old) }
+    ensures { codes.new ≡ zip_with delta_code above.now row.now }
 {
-    let mut i = 0;
-    while i < width {
-        codes[i] = delta_value(rows[i], rows[width + i]);
-        i += 1;
+    for i in 0..codes.len() {
+        codes[i] = delta_value(above[i], row[i]);
     }
 }
 
-// The coded values of row r, from a slice that has the samples of one plane.
-fn code_plane_row(samples: &[u8], r: usize, width: usize, codes: &mut [u8])
-    requires { (r ≤ 8192) × (width ≤ 8192) × (r * width + width ≤ length samples.now) × (width ≤ length codes.old) }
-    ensures { take width codes.new ≡ codes_at width samples.now r }
+// The coded values of a row whose plane has a slice of its own.
+fn code_plane_row(row: PlaneRow, codes: &mut [u8])
+    requires { (row.samples.layout ≡ Layout.Planar) × (length codes.old ≡ row.width) }
+    ensures { codes.new ≡ codes_at row.entry.width (samples_in row.entry.samples) row.entry.r }
 {
+    let PlaneRow { samples, r, width } = row;
+    let start = r * width;
     if r == 0 {
-        codes[..width].copy_from_slice(&samples[..width]);
+        codes.copy_from_slice(&samples.src[..width]);
         return;
     }
     let above = (r - 1) * width;
-    delta_below(&samples[above..], width, codes);
+    delta_below(
+        &samples.src[above..above + width],
+        &samples.src[start..start + width],
+        codes,
+    );
 }
 
-// The coded values of row r of a channel in pixels. On entry `above` has the samples of the row above, on return those of row r.
-fn code_pixel_row(samples: Samples, r: usize, width: usize, above: &mut [u8], codes: &mut [u8])
-    requires { (r ≤ 8192) × (width ≤ 8192) × (r * width + width ≤ length (samples_in samples)) × (width ≤ length above.old) × (width ≤ length codes.old) × HasRowAbove width (samples_in samples) r above.old }
-    ensures codes { take width codes.new ≡ codes_at width (samples_in samples.entry) r }
-    ensures above { HasRowAbove width (samples_in samples.entry) (r + 1) above.new }
+// The coded values of a row of a channel in pixels. On entry `above` has the samples of the row above, on return those of the row.
+fn code_pixel_row(row: PlaneRow, above: &mut [u8], codes: &mut [u8])
+    requires { (length above.old ≡ row.width) × (length codes.old ≡ row.width) × HasRowAbove row.width (samples_in row.samples) row.r above.old }
+    ensures codes { codes.new ≡ codes_at row.entry.width (samples_in row.entry.samples) row.entry.r }
+    ensures above { HasRowAbove row.entry.width (samples_in row.entry.samples) (row.entry.r + 1) above.new }
 {
-    samples.read(r * width, &mut codes[..width]);
-    code_scanline(r, &mut above[..width], &mut codes[..width]);
+    row.samples.read(row.r * row.width, codes);
+    code_scanline(row.r, above, codes);
 }
 
-// The coded values of row r of a channel, in either layout.
-pub(crate) fn code_row(samples: Samples, r: usize, width: usize, above: &mut [u8], codes: &mut [u8])
-    requires { (r ≤ 8192) × (width ≤ 8192) × (r * width + width ≤ length (samples_in samples)) × (width ≤ length above.old) × (width ≤ length codes.old) × KeepsRowAbove samples.layout width (samples_in samples) r above.old }
-    ensures codes { take width codes.new ≡ codes_at width (samples_in samples.entry) r }
-    ensures above { KeepsRowAbove samples.entry.layout width (samples_in samples.entry) (r + 1) above.new }
+// The coded values of a row of a channel, in either layout.
+pub(crate) fn code_row(row: PlaneRow, above: &mut [u8], codes: &mut [u8])
+    requires { (length above.old ≡ row.width) × (length codes.old ≡ row.width) × KeepsRowAbove row.samples.layout row.width (samples_in row.samples) row.r above.old }
+    ensures codes { codes.new ≡ codes_at row.entry.width (samples_in row.entry.samples) row.entry.r }
+    ensures above { KeepsRowAbove row.entry.samples.layout row.entry.width (samples_in row.entry.samples) (row.entry.r + 1) above.new }
 {
-    match samples.layout {
-        Layout::Planar => code_plane_row(samples.src, r, width, codes),
-        Layout::Pixels(_) => code_pixel_row(samples, r, width, above, codes),
+    match row.samples.layout {
+        Layout::Planar => code_plane_row(row, codes),
+        Layout::Pixels(_) => code_pixel_row(row, above, codes),
     }
 }

@@ -2,6 +2,7 @@
 #![tactic(auto)]
 
 mod delta;
+mod plane_row;
 mod row;
 mod runs;
 mod segment;
@@ -14,6 +15,7 @@ ghost use Rattle.pixel_format.specs.Samples.{samples_in};
 
 use delta::code_row;
 use pixel_format::{Channel, Layout, Samples};
+use plane_row::PlaneRow;
 use rle_format::{MAX_SIDE, Refusal, ValidSides};
 use row::encode_next_row;
 
@@ -46,7 +48,11 @@ fn encode_rows(
     let width = sides.width;
     let mut to = 0;
     for r in 0..sides.height {
-        code_row(samples, r, width, above, codes);
+        code_row(
+            PlaneRow { samples, r, width },
+            &mut above[..width],
+            &mut codes[..width],
+        );
         to = encode_next_row(codes, width, packed, dst, to)?;
     }
     Ok(to)

@@ -1,17 +1,19 @@
 -- `delta_below`: one more sample is coded.
-use Rattle.std.proofs.Common.{◌≡◌, ℕ, take, sym, ap, ◌∙◌, arith, take_all}
-use Rattle.rle_encoder.proofs.Below.{below_codes, below_length, below_more}
+use Rattle.std.proofs.Common.{sym, ◌∙◌, arith}
+use Rattle.rle_format.specs.Delta.{delta_code}
+use Rattle.rle_format.proofs.Delta.{length_zip_with, get_or_zip_with}
+use Rattle.rle_encoder.proofs.Replaced.{replaced_step, replaced_end}
 use Rattle.rle_encoder.proofs.delta.delta_below.Goals as goal
 
 pub loop-i-preserved : goal.loop-i-preserved
 loop-i-preserved c =
     let l = c.loop-i in
     let a = c.args in
-    (omega arith, below_more a.rows.now a.width (omega arith) l.codes l.i c.delta_value.result (omega arith) (omega arith) l.invariant.1 c.delta_value.ensures)
+    let coded = length_zip_with delta_code a.above.now a.row.now (omega arith) in
+    let is = get_or_zip_with delta_code a.above.now a.row.now l.i (omega arith) (omega arith) in
+    replaced_step l.invariant _ (omega arith) (omega arith) (c.delta_value.ensures ∙ sym is)
 
 pub returns : goal.returns
 returns c =
-    let l = c.loop-i in
-    let a = c.args in
-    let e : l.i ≡ a.width = omega arith in
-    ap (λ (n : ℕ). take n l.codes) (sym e) ∙ l.invariant.1 ∙ take_all l.i (below_codes a.rows.now a.width) (omega (arith, below_length a.rows.now a.width (omega arith)))
+    let coded = length_zip_with delta_code c.args.above.now c.args.row.now (omega arith) in
+    replaced_end c.loop-i.invariant (omega arith) (omega arith)

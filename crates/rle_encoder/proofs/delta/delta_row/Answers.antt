@@ -11,12 +11,11 @@ loop-i-preserved c =
     let a = c.args in
     let coded = length_zip_with delta_code a.above.now a.codes.now (omega arith) in
     let is = get_or_zip_with delta_code a.above.now a.codes.now l.i (omega arith) (omega arith) in (
-      omega arith,
-      replaced_step l.invariant.1 _ (omega arith) (omega arith) (replaced_next l.invariant.2),
-      replaced_step l.invariant.2 _ (omega arith) (omega arith) (c.delta_value.ensures ∙ (λ j. delta_code (replaced_next l.invariant.1 j) (replaced_next l.invariant.2 j)) ∙ sym is),
+      replaced_step l.invariant.0 _ (omega arith) (omega arith) (replaced_next l.invariant.1),
+      replaced_step l.invariant.1 _ (omega arith) (omega arith) (c.delta_value.ensures ∙ (λ j. delta_code (replaced_next l.invariant.0 j) (replaced_next l.invariant.1 j)) ∙ sym is),
     )
 
 pub returns-clause-codes : goal.returns-clause-codes
 returns-clause-codes c =
     let coded = length_zip_with delta_code c.args.above.now c.args.codes.now (omega arith) in
-    replaced_end c.loop-i.invariant.2 (omega arith) (omega arith)
+    replaced_end c.loop-i.invariant.1 (omega arith) (omega arith)
