@@ -1,23 +1,11 @@
 // Writing raw bytes and a run as segments (FORMAT 5.2, 5.3) into an array with room for the whole row. So nothing is tested, and raw bytes are
 // copied 16 at a time, however few they are: the bytes behind them are overwritten by the next segment, or never read.
 ghost use Rattle.std.specs.Prelude.{◌≡◌, ◌+◌, ◌<◌, ◌≤◌, [], ◌∷◌, length, take, drop};
-ghost use Rattle.rle_format.specs.Slice.{write_at};
 ghost use Rattle.rle_format.specs.Segment.{segments_bytes};
 ghost use Rattle.rle_format.specs.Pack.{literal, repeat, split_segments, long_run};
 ghost use Rattle.rle_encoder.specs.Put.{Put};
 
 use rle_scanline_encoder::segment::{long_run_part, raw_count_of_rest, short_run_part};
-
-// Copies 16 bytes of src from index `from` on to dst from index `at` on, by way of an array. The compiler does not know that the two slices
-// do not overlap, but knows it of the array: this way it is one load and one store.
-fn copy_16(src: &[u8], from: usize, dst: &mut [u8], at: usize)
-    requires { (from + 16 ≤ length src.now) × (at + 16 ≤ length dst.old) }
-    ensures { dst.new ≡ write_at dst.old at (take 16 (drop from src.now)) }
-{
-    let mut sixteen = [0u8; 16];
-    sixteen.copy_from_slice(&src[from..from + 16]);
-    dst[at..at + 16].copy_from_slice(&sixteen);
-}
 
 // Writes one segment of up to 15 raw bytes, which begin at index `from` of raw, and a run of up to 15.
 fn put_literal(
@@ -32,7 +20,9 @@ fn put_literal(
     ensures { Put (literal (take count (drop from raw.now)) run ∷ []) packed.old packed.new at result }
 {
     packed[at] = (16 * count + run) as u8;
-    copy_16(raw, from, packed, at + 1);
+    // By way of an array, since the compiler does not know that the two slices are apart: so it is one load and one store.
+    let sixteen: [u8; 16] = *raw[from..from + 16].as_array().unwrap();
+    packed[at + 1..at + 17].copy_from_slice(&sixteen);
     at + 1 + count
 }
 
