@@ -4,6 +4,7 @@
 mod delta;
 mod plane_row;
 mod row;
+mod row_packer;
 mod runs;
 mod segment;
 
@@ -17,7 +18,7 @@ use delta::code_row;
 use pixel_format::{Channel, Layout, Samples};
 use plane_row::PlaneRow;
 use rle_format::{MAX_SIDE, Refusal, ValidSides};
-use row::encode_next_row;
+use row_packer::RowPacker;
 
 // The width up to which a plane is packed with small arrays: to fill the large ones with zeros takes longer than to pack a small plane.
 const NARROW: usize = 256;
@@ -53,7 +54,12 @@ fn encode_rows(
             &mut above[..width],
             &mut codes[..width],
         );
-        to = encode_next_row(codes, width, packed, dst, to)?;
+        let mut row = RowPacker {
+            codes,
+            width,
+            packed,
+        };
+        to = row.encode_to(dst, to)?;
     }
     Ok(to)
 }

@@ -21,7 +21,7 @@ returns-in_err-to c =
     let a = c.args in
     let samples = samples_in a.samples in
     let code = c.code_row in
-    let put = c.encode_next_row in
+    let put = c.encode_to in
     let why = c.in_err-to in
     let wrote = row_written a.sides.width samples l.r code.new.codes (drop a.sides.width l.codes) (code.auto.codes ∙ length-take-le a.sides.width l.codes (omega arith)) code.ensures.codes l.dst put.new.dst l.to (Err why.field-0.0) (why.ensures.answer, why.ensures.slice) in
     let w = wrote_from_0 (plane_segments a.sides.width a.sides.height samples) a.dst.now put.new.dst (Err why.field-0.0)
@@ -36,7 +36,7 @@ loop-r-preserved c =
     let a = c.args in
     let samples = samples_in a.samples in
     let code = c.code_row in
-    let put = c.encode_next_row in
+    let put = c.encode_to in
     let next = c.in_ok-to in
     let wrote = row_written a.sides.width samples l.r code.new.codes (drop a.sides.width l.codes) (code.auto.codes ∙ length-take-le a.sides.width l.codes (omega arith)) code.ensures.codes l.dst put.new.dst l.to (Ok next.to) (next.ensures.answer, next.ensures.slice) in (
       keeps_row_above a.samples.layout a.sides.width samples (l.r + 1) code.new.above (drop a.sides.width l.above) (code.auto.above ∙ length-take-le a.sides.width l.above (omega arith)) code.ensures.above,
