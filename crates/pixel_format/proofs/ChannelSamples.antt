@@ -1,11 +1,11 @@
 -- The samples of a channel: their number, and the index of each.
 use mathlib.Core.Path.{◌≡◌, refl, sym, ap, ◌∙◌}
 use mathlib.Core.Logic.{⊎_elim}
-use mathlib.Core.List.{List, [], ◌∷◌}
+use mathlib.Core.List.{List, [], ◌∷◌, ◌++◌}
 use Prim.Native.Nat.{ℕ, zero, suc, ◌+◌, ◌*◌, ◌-◌, ◌/◌, ◌≤◌, ◌<◌, min}
 use native.Mathlib.Omega.{arith}
 use lib.ListN.{length, take, drop, get_or, length-append, length-drop, drop_of_length-le, get_or-append}
-use lib.Seq.{take_all, take-nil, get_or_at}
+use lib.Seq.{take_all, take-nil, get_or_at, length-take-le}
 use Rattle.rle_format.specs.Slice.{overwrite}
 use Rattle.rle_format.proofs.Cases.{le_or_gt}
 use Rattle.rle_format.proofs.Slice.{overwrite_nil}
@@ -78,23 +78,13 @@ module _ (l : Layout) (c : Channel) (s : List ℕ) where
   pixels_count p e =
       ap (λ (k : ℕ). length s / k) (sym (layouts_rearrange p).four_bytes) ∙ sym (length_channel (channel_offsets p) c s) ∙ ap length (samples_of_pixels p e)
 
-  -- what was copied of them is what was asked for
-  module _ (d now : List ℕ) (from n : ℕ) (all : n ≡ min (length (samples_of l c s) - from) (length d)) where
-    -- a slice of samples is passed as `&s[from..from + n]`
-    pub planar_read : l ≡ Planar → now ≡ overwrite d (take (from + n - from) (drop from s)) → now ≡ overwrite d (take (length d) (drop from (samples_of l c s)))
-    planar_read e is =
-        let part : from + n - from ≡ n = omega arith in
-        is ∙ (λ i. overwrite d (take (part i) (drop from (samples_of_planar e i)))) ∙ ap (overwrite d) (read_limited (samples_of l c s) from n (length d) all)
-
-    pub pixels_read : (p : PixelLayout) (offset : ℕ) → offset ≡ offset_of (channel_offsets p) c → l ≡ Pixels p → now ≡ overwrite d (take n (drop from (strided 4 offset (length s / 4) s)))
-        → now ≡ overwrite d (take (length d) (drop from (samples_of l c s)))
-    unfolding channel
-    pixels_read p offset at e is =
-        let four : 4 ≡ (channel_offsets p).stride = sym (layouts_rearrange p).four_bytes in
-        is
-        ∙ (λ i. overwrite d (take n (drop from (strided (four i) (at i) (length s / four i) s))))
-        ∙ ap (λ (t : List ℕ). overwrite d (take n (drop from t))) (samples_of_pixels p e)
-        ∙ ap (overwrite d) (read_limited (samples_of l c s) from n (length d) all)
+  -- a part that was filled with the n samples that are left and were asked for
+  pub read_part : (d part : List ℕ) (from n : ℕ) → n ≡ min (length (samples_of l c s) - from) (length d) → length part ≡ length (take n d) → part ≡ take n (drop from (samples_of l c s))
+      → part ++ drop n d ≡ overwrite d (take (length d) (drop from (samples_of l c s)))
+  unfolding overwrite
+  read_part d part from n all long is =
+      let same : n ≡ length part = sym (length-take-le n d (omega arith)) ∙ sym long in
+      ap (λ (k : ℕ). part ++ drop k d) same ∙ ap (overwrite d) (is ∙ read_limited (samples_of l c s) from n (length d) all)
 
 -- each channel of a slice has as many
 pub as_many : (l : Layout) (c other : Channel) (s : List ℕ) → length (samples_of l c s) ≡ length (samples_of l other s)

@@ -6,18 +6,7 @@ use borrow.Author.Tests.{ne_eqb}
 use Rattle.pixel_format.specs.declared.PixelLayout.{PixelLayout}
 use Rattle.pixel_format.specs.declared.PixelLayout.TheVariants.{BgrA, RgbA, ARgb, ABgr}
 use Rattle.pixel_format.specs.Channel.{ChannelOffsets, bgr_a, rgb_a, a_rgb, a_bgr, channel_offsets}
-use Rattle.pixel_format.specs.Layouts.{is_at, channels_at, IsRearrangement, LayoutsRearrange}
-
--- the four offsets one by one
-by_offsets : (p : ChannelOffsets) → p.stride ≡ 4 → channels_at p 0 ≡ 1 → channels_at p 1 ≡ 1 → channels_at p 2 ≡ 1 → channels_at p 3 ≡ 1 → IsRearrangement p
-by_offsets p s e₀ e₁ e₂ e₃ = record { four_bytes = s; one_at = at }
-  where
-    at : (k : ℕ) → k < 4 → channels_at p k ≡ 1
-    at zero l = e₀
-    at (suc zero) l = e₁
-    at (suc (suc zero)) l = e₂
-    at (suc (suc (suc zero))) l = e₃
-    at (suc (suc (suc (suc k)))) l = absurd (omega arith)
+use Rattle.pixel_format.specs.Layouts.{is_at, channels_at, IsRearrangement, LayoutsRearrange, by_offsets}
 
 pub layouts_rearrange : LayoutsRearrange
 layouts_rearrange BgrA = by_offsets bgr_a refl refl refl refl refl

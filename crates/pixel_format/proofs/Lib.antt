@@ -1,4 +1,4 @@
+mod ColumnSamples
 mod Examples
 pub mod Layouts
 pub mod ChannelSamples
-mod PixelWords

@@ -1,6 +1,5 @@
 pub mod Channel
 pub mod Layouts
 pub mod Examples
-pub mod PixelWords
-pub mod Offsets
+pub mod Column
 pub mod Samples

@@ -3,8 +3,8 @@ ghost use Rattle.std.specs.Prelude.{◌≡◌, length, take, drop};
 ghost use Rattle.rle_format.specs.Slice.{overwrite};
 ghost use Rattle.pixel_format.specs.Samples.{samples_in};
 
-use crate::copy::{copy_channel, offset_of};
-use crate::{BgrAChannels, Channel, Layout};
+use crate::column::Column;
+use crate::{BgrAChannels, Channel, Layout, PixelChannels};
 
 // A channel, and the slice that its samples are in.
 #[derive(Clone, Copy)]
@@ -34,17 +34,10 @@ impl Samples<'_> {
             return;
         }
         let n = (count - from).min(dst.len());
+        let part = &mut dst[..n];
         match self.layout {
-            Layout::Planar => {
-                dst[..n].copy_from_slice(&self.src[from..from + n]);
-            }
-            Layout::Pixels(pixels) => copy_channel(
-                self.src,
-                offset_of(pixels, self.channel),
-                from,
-                n,
-                dst,
-            ),
+            Layout::Planar => part.copy_from_slice(&self.src[from..from + n]),
+            Layout::Pixels(pixels) => Column::new(self.src, pixels, self.channel).copy(from, part),
         }
     }
 }
