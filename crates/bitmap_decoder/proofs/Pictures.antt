@@ -27,7 +27,7 @@ use Rattle.bitmap_format.specs.Picture.{PictureOutcome, refused_picture, is_loss
 use Rattle.bitmap_format.proofs.Answer.{passed_up}
 use Rattle.bitmap_format.proofs.Checks.{sides_passed}
 use Rattle.bitmap_format.proofs.UnpackPicture.{rle_work_enough, raw_body_enough}
-use Rattle.bitmap_planes.proofs.PlaneSequence.{PlanesRead}
+use Rattle.bitmap_planes.proofs.PlaneSequence.{length_suffix, PlanesRead}
 use Rattle.bitmap_image.specs.WritePlanes.{write_planes_of}
 use Rattle.bitmap_image.proofs.PlanesFit.{PlanesKnown, planes_written}
 
@@ -37,9 +37,6 @@ PictureResult p work_after image_after d = (to_answer d ≡ p.answer) × ((work_
 
 pub result_cong : (p q : PictureOutcome) (work image : List ℕ) (d : Result ℕ Refusal) → p ≡ q → PictureResult q work image d → PictureResult p work image d
 result_cong p q work image d e l = rw e l
-
-length_suffix : (l : List ℕ) (from : ℕ) → length (suffix l from) ≡ length l - from
-length_suffix l from = ap length (suffix_drop l from) ∙ length-drop from l
 
 -- the sides of a picture that passed all checks
 pub checked_sides : (form : PixelForm) (header : BitmapStreamHeader) (w h body work image n : ℕ) → check_picture form header w h body work image ≡ counted n → AllowedSides w h

@@ -1,13 +1,13 @@
--- A plane in its parts of the body and of the work area, and the planes of a picture one after the other.
+-- A plane in its part of the work area, and the planes of a picture one after the other.
 use Prim.Native.Nat.{ℕ, ◌+◌, ◌-◌, ◌*◌, ◌≤◌, ◌<◌, min}
 use mathlib.Core.Bool.{Bool, true, false}
 use mathlib.Core.Path.{◌≡◌, refl, sym, ap, ◌∙◌}
 use mathlib.Core.Logic.{⊎_elim}
 use mathlib.Core.List.{List, [], ◌∷◌}
 use mathlib.Core.Option.{none}
-use native.Mathlib.Nat.{mul-le-mul}
+use native.Mathlib.Nat.{mul-le-mul, add-zero, add_assoc}
 use native.Mathlib.Omega.{arith}
-use lib.ListN.{length, drop, length-take, length-drop}
+use lib.ListN.{length, length-take, length-drop}
 use Rattle.std.specs.Prelude.{Result, Ok, Err}
 use Rattle.std.specs.Result.{IsErrAnd}
 use Rattle.rle_format.specs.declared.Refusal.{Refusal}
@@ -16,13 +16,17 @@ use Rattle.rle_format.specs.Slice.{overwrite, write_at}
 use Rattle.rle_format.specs.Unpack.{unpack_rows, unpack_plane}
 use Rattle.rle_format.proofs.Answer.{refused_not_counted}
 use Rattle.rle_format.proofs.Cases.{le_or_gt, eq_or_ne}
-use Rattle.rle_format.proofs.Plane.{plane_zero_width, plane_zero_height, plane_too_wide, plane_too_high, plane_short_destination, plane_rows}
+use Rattle.rle_format.proofs.Plane.{plane_zero_width, plane_zero_height, plane_too_wide, plane_too_high, plane_short_destination, plane_rows, area_max}
 use Rattle.rle_format.proofs.Slice.{suffix, replace_suffix, suffix_drop, suffix_overwrite, write_at_nil}
 use Rattle.bitmap_format.specs.declared.BitmapStreamHeader.{BitmapStreamHeader}
 use Rattle.bitmap_format.specs.Planes.{PlaneAt, plane_at, subsampled, chroma_side_of, first_plane, second_plane, third_plane, colour_planes, alpha_planes_at, planes_with_alpha_at}
 use Rattle.bitmap_format.specs.UnpackPlanes.{PlanesOutcome, unpack_plane_at, add_read, unpack_planes}
 use Rattle.bitmap_format.proofs.Answer.{passed_up}
-use Rattle.bitmap_format.proofs.UnpackPlanes.{PlanesInvariant, planes_start, planes_step, planes_refusal, planes_last, planes_append, planes_append_refused, read_within, add_read_0}
+use Rattle.bitmap_format.proofs.Sizes.{chroma_side-max}
+use Rattle.bitmap_format.proofs.UnpackPlanes.{work_after, unpack_planes_read, unpack_planes_refused, read_within, planes_append, planes_append_refused}
+
+pub length_suffix : (l : List ℕ) (from : ℕ) → length (suffix l from) ≡ length l - from
+length_suffix l from = ap length (suffix_drop l from) ∙ length-drop from l
 
 -- ---- a plane that was read, and one without room
 
@@ -75,104 +79,122 @@ nothing_without_room w h body =
         one : (n : ℕ) → (n ≡ 0 → ⊥) → 1 ≤ n
         one n h = omega arith
 
--- ---- decompress_next_plane: it starts at `start`, the lesser of the offset and the end of the work area; ys is what the plane unpacker left there
+-- ---- decompress_plane: it starts at `start`, the lesser of the offset and the end of the work area; ys is what the plane unpacker left there
 
--- what a function that unpacks a plane from `at` of the body on shows: its answer r, which counts the bytes before, and the work area
-abbrev pub PlaneRead : (p : PlaneAt) (body work after : List ℕ) (at : ℕ) (r : Result ℕ Refusal) → Type 0
-PlaneRead p body work after at r =
-    (to_answer r ≡ add_count at (unpack_plane_at p work (drop at body)).answer) × (after ≡ write_at work p.offset (unpack_plane_at p work (drop at body)).written)
+-- what a function that unpacks a plane shows: its answer r, and the work area
+abbrev pub PlaneRead : (p : PlaneAt) (body work after : List ℕ) (r : Result ℕ Refusal) → Type 0
+PlaneRead p body work after r = (to_answer r ≡ (unpack_plane_at p work body).answer) × (after ≡ work_after p work body)
 
-module _ (body work ys : List ℕ) (at offset start width height : ℕ) (starts : start ≡ min offset (length work)) (r : Result ℕ Refusal)
-    (said : to_answer r ≡ (unpack_plane width height (length (suffix work start)) (suffix body at)).answer)
-    (wrote : ys ≡ overwrite (suffix work start) (unpack_plane width height (length (suffix work start)) (suffix body at)).written) where
-  same : unpack_plane width height (length (suffix work start)) (suffix body at) ≡ unpack_plane_at (plane_at width height offset) work (drop at body)
+module _ (body work ys : List ℕ) (offset start width height : ℕ) (starts : start ≡ min offset (length work)) (r : Result ℕ Refusal)
+    (said : to_answer r ≡ (unpack_plane width height (length (suffix work start)) body).answer)
+    (wrote : ys ≡ overwrite (suffix work start) (unpack_plane width height (length (suffix work start)) body).written) where
+  abbrev outcome : Outcome
+  outcome = unpack_plane_at (plane_at width height offset) work body
+
+  same : unpack_plane width height (length (suffix work start)) body ≡ outcome
   same =
       let n : length (suffix work start) ≡ length work - offset = simp (length-take, length-drop) (omega arith) in
-      λ i. unpack_plane width height (n i) (suffix_drop body at i)
+      λ i. unpack_plane width height (n i) body
 
   -- from the offset on or, if that is behind the end, nothing
-  written_from : write_at work start (unpack_plane_at (plane_at width height offset) work (drop at body)).written
-      ≡ write_at work offset (unpack_plane_at (plane_at width height offset) work (drop at body)).written
+  written_from : write_at work start outcome.written ≡ write_at work offset outcome.written
   written_from =
       ⊎_elim
       (λ (l : offset ≤ length work).
       let e : start ≡ offset = omega arith in
-      ap (λ (k : ℕ). write_at work k (unpack_plane_at (plane_at width height offset) work (drop at body)).written) e)
+      ap (λ (k : ℕ). write_at work k outcome.written) e)
       (λ (l : length work < offset).
       let z : length work - offset ≡ 0 = omega arith in
-      let nothing : (unpack_plane_at (plane_at width height offset) work (drop at body)).written ≡ [] = ap (λ (k : ℕ). (unpack_plane width height k (drop at body)).written) z ∙ nothing_without_room width height (drop at body) in
+      let nothing : outcome.written ≡ [] = ap (λ (k : ℕ). (unpack_plane width height k body).written) z ∙ nothing_without_room width height body in
       ap (write_at work start) nothing ∙ write_at_nil work start ∙ sym (ap (write_at work offset) nothing ∙ write_at_nil work offset))
       (le_or_gt offset (length work))
 
-  suffix_is_plane : replace_suffix work start ys ≡ write_at work offset (unpack_plane_at (plane_at width height offset) work (drop at body)).written
-  suffix_is_plane = suffix_overwrite work ys _ start wrote ∙ ap (λ (o : Outcome). write_at work start o.written) same ∙ written_from
-
-  answer : to_answer r ≡ (unpack_plane_at (plane_at width height offset) work (drop at body)).answer
-  answer = said ∙ ap (λ (o : Outcome). o.answer) same
-
-  pub next_refused : (q : Refusal) → r ≡ Err q → (up : Result ℕ Refusal) → IsErrAnd up (λ (k : Refusal). k ≡ q) → PlaneRead (plane_at width height offset) body work (replace_suffix work start ys) at up
-  next_refused q e up is = (passed_up up q is ∙ ap (add_count at) (sym (ap to_answer e) ∙ answer), suffix_is_plane)
-
-  pub next_read : (n : ℕ) → r ≡ Ok n → PlaneRead (plane_at width height offset) body work (replace_suffix work start ys) at (Ok (at + n))
-  next_read n e = (ap (add_count at) (sym (ap to_answer e) ∙ answer), suffix_is_plane)
-
-  pub next_within : (n : ℕ) → r ≡ Ok n → at ≤ length body → at + n ≤ length body
-  next_within n e l =
-      let b : n ≤ length (drop at body) = read_within (plane_at width height offset) work (drop at body) n (sym answer ∙ ap to_answer e) in
-      let m : length (drop at body) ≡ length body - at = length-drop at body in
-      omega arith
-
--- the sides of a plane that decompress_next_plane read
-pub plane_read_sides : (width height offset : ℕ) (body work after : List ℕ) (at : ℕ) (r : Result ℕ Refusal) (m : ℕ) → PlaneRead (plane_at width height offset) body work after at r → r ≡ Ok m
-    → (width ≤ 8192) × (height ≤ 8192)
-plane_read_sides width height offset body work after at r m e er = go (unpack_plane_at (plane_at width height offset) work (drop at body)).answer refl (sym (ap to_answer er) ∙ e.0)
-  where
-    go : (a : Answer) → (unpack_plane_at (plane_at width height offset) work (drop at body)).answer ≡ a → counted m ≡ add_count at a → (width ≤ 8192) × (height ≤ 8192)
-    go (refused q) ea em = refused_not_counted (sym em)
-    go (counted n) ea em = read_sides width height (length work - offset) (drop at body) n ea
+  pub plane_is_read : PlaneRead (plane_at width height offset) body work (replace_suffix work start ys) r
+  plane_is_read = (said ∙ ap (λ (o : Outcome). o.answer) same, suffix_overwrite work ys _ start wrote ∙ ap (λ (o : Outcome). write_at work start o.written) same ∙ written_from)
 
 -- ---- a chain
 
+-- what is shown of planes that are unpacked: their answer a, and the work area
+abbrev Shown : (u : PlanesOutcome) (after : List ℕ) (a : Answer) → Type 0
+Shown u after a = (a ≡ u.answer) × (after ≡ u.work)
+
 -- what a function that unpacks planes shows: its answer r, and the work area
 abbrev pub PlanesRead : (u : PlanesOutcome) (after : List ℕ) (r : Result ℕ Refusal) → Type 0
-PlanesRead u after r = (to_answer r ≡ u.answer) × (after ≡ u.work)
+PlanesRead u after r = Shown u after (to_answer r)
 
-module _ (all rest : List PlaneAt) (p : PlaneAt) (body work₀ work after : List ℕ) (from at : ℕ) (r : Result ℕ Refusal) (h : PlanesInvariant all (p ∷ rest) body work₀ work from at)
-    (e : PlaneRead p body work after at r) where
-  pub planes_step_read : (m : ℕ) → r ≡ Ok m → length after ≡ length work → PlanesInvariant all rest body work₀ after from m
-  planes_step_read m er kept = planes_step all rest p body work₀ work after from at h e.1 m (sym (ap to_answer er) ∙ e.0) kept
+-- a refusal that `?` passes up
+pub refusal_up : (u : PlanesOutcome) (after : List ℕ) (k : Refusal) → Shown u after (refused (number k)) → (up : Result ℕ Refusal) → IsErrAnd up (λ (q : Refusal). q ≡ k) → PlanesRead u after up
+refusal_up u after k s up is = (passed_up up k is ∙ s.0, s.1)
 
-  pub planes_step_refused : (q : Refusal) → r ≡ Err q → (up : Result ℕ Refusal) → IsErrAnd up (λ (k : Refusal). k ≡ q)
-      → PlanesRead (add_read from (unpack_planes all work₀ (drop from body))) after up
-  planes_step_refused q er up is =
-      let u : add_read from (unpack_planes all work₀ (drop from body)) ≡ record { work = after; answer = refused (number q) } =
-      planes_refusal all rest p body work₀ work after from at h e.1 (number q) (sym (ap to_answer er) ∙ e.0) in
-      (passed_up up q is ∙ sym (ap (λ (u : PlanesOutcome). u.answer) u), sym (ap (λ (u : PlanesOutcome). u.work) u))
+module _ (p : PlaneAt) (body work after : List ℕ) (r : Result ℕ Refusal) (e : PlaneRead p body work after r) where
+  pub plane_within : (n : ℕ) → r ≡ Ok n → n ≤ length body
+  plane_within n er = read_within p work body n (sym e.0 ∙ ap to_answer er)
 
-pub planes_last_read : (all : List PlaneAt) (p : PlaneAt) (body work₀ work after : List ℕ) (from at : ℕ) (r : Result ℕ Refusal) → PlanesInvariant all (p ∷ []) body work₀ work from at
-    → PlaneRead p body work after at r → PlanesRead (add_read from (unpack_planes all work₀ (drop from body))) after r
-planes_last_read all p body work₀ work after from at r h e =
-    let u : add_read from (unpack_planes all work₀ (drop from body)) ≡ record { work = after; answer = to_answer r } =
-    planes_last all p body work₀ work after from at h e.1 (to_answer r) e.0 in
-    (sym (ap (λ (u : PlanesOutcome). u.answer) u), sym (ap (λ (u : PlanesOutcome). u.work) u))
+  module _ (planes : List PlaneAt) where
+    pub chain_refused : (k : Refusal) → r ≡ Err k → Shown (unpack_planes (p ∷ planes) work body) after (refused (number k))
+    chain_refused k er =
+        let u = unpack_planes_refused p planes work body (number k) (sym e.0 ∙ ap to_answer er) in
+        (sym (ap (λ (u : PlanesOutcome). u.answer) u), e.1 ∙ sym (ap (λ (u : PlanesOutcome). u.work) u))
 
--- the colour planes, by the sides of a chroma plane
-pub colour_planes_are : (s : Bool) (width height cw ch : ℕ) → cw ≡ chroma_side_of s width → ch ≡ chroma_side_of s height
-    → colour_planes s width height ≡ plane_at width height 0 ∷ plane_at cw ch (width * height) ∷ plane_at cw ch (width * height + cw * ch) ∷ []
-unfolding colour_planes first_plane second_plane third_plane
-colour_planes_are s width height cw ch ew eh =
-    λ i. plane_at width height 0 ∷ plane_at (sym ew i) (sym eh i) (width * height) ∷ plane_at (sym ew i) (sym eh i) (width * height + sym ew i * sym eh i) ∷ []
+    -- the planes after it go on behind the n bytes that it took
+    pub chain_read : (n : ℕ) → r ≡ Ok n → (last : List ℕ) (a : Answer) → Shown (unpack_planes planes after (suffix body n)) last a → Shown (unpack_planes (p ∷ planes) work body) last (add_count n a)
+    unfolding add_read
+    chain_read n er last a s =
+        let u : unpack_planes (p ∷ planes) work body ≡ add_read n (unpack_planes planes after (suffix body n)) =
+        unpack_planes_read p planes work body n (sym e.0 ∙ ap to_answer er) ∙ (λ i. add_read n (unpack_planes planes (sym e.1 i) (sym (suffix_drop body n) i))) in
+        (ap (add_count n) s.0 ∙ sym (ap (λ (u : PlanesOutcome). u.answer) u), s.1 ∙ sym (ap (λ (u : PlanesOutcome). u.work) u))
+
+  -- the last plane
+  pub chain_last : (n : ℕ) → r ≡ Ok n → Shown (unpack_planes (p ∷ []) work body) after (counted n)
+  unfolding unpack_planes
+  chain_last n er = let s = chain_read [] n er after (counted 0) (refl, refl) in (sym (ap counted (add-zero n)) ∙ s.0, s.1)
+
+-- ---- the colour planes, by the sides of a chroma plane
+
+module _ (s : Bool) (w h cw ch : ℕ) (body work : List ℕ) (is_w : cw ≡ chroma_side_of s w) (is_h : ch ≡ chroma_side_of s h) where
+  colour_planes_are : colour_planes s w h ≡ plane_at w h 0 ∷ plane_at cw ch (w * h) ∷ plane_at cw ch (w * h + cw * ch) ∷ []
+  unfolding colour_planes first_plane second_plane third_plane
+  colour_planes_are = λ i. plane_at w h 0 ∷ plane_at (sym is_w i) (sym is_h i) (w * h) ∷ plane_at (sym is_w i) (sym is_h i) (w * h + sym is_w i * sym is_h i) ∷ []
+
+  as_colours : (after : List ℕ) (a : Answer) → Shown (unpack_planes (plane_at w h 0 ∷ plane_at cw ch (w * h) ∷ plane_at cw ch (w * h + cw * ch) ∷ []) work body) after a
+      → Shown (unpack_planes (colour_planes s w h) work body) after a
+  as_colours after a u = rw colour_planes_are u
+
+  -- d₁, d₂ and d₃ are the work area after each plane
+  module _ (d₁ : List ℕ) (r₁ : Result ℕ Refusal) (e₁ : PlaneRead (plane_at w h 0) body work d₁ r₁) where
+    pub first_refused : (k : Refusal) → r₁ ≡ Err k → Shown (unpack_planes (colour_planes s w h) work body) d₁ (refused (number k))
+    first_refused k is = as_colours _ _ (chain_refused _ _ _ _ _ e₁ _ k is)
+
+    module _ (n : ℕ) (read₁ : r₁ ≡ Ok n) (d₂ : List ℕ) (r₂ : Result ℕ Refusal) (e₂ : PlaneRead (plane_at cw ch (w * h)) (suffix body n) d₁ d₂ r₂) where
+      pub second_refused : (k : Refusal) → r₂ ≡ Err k → Shown (unpack_planes (colour_planes s w h) work body) d₂ (refused (number k))
+      second_refused k is = as_colours _ _ (chain_read _ _ _ _ _ e₁ _ n read₁ _ _ (chain_refused _ _ _ _ _ e₂ _ k is))
+
+      module _ (m : ℕ) (read₂ : r₂ ≡ Ok m) (d₃ : List ℕ) (r₃ : Result ℕ Refusal) (e₃ : PlaneRead (plane_at cw ch (w * h + cw * ch)) (suffix (suffix body n) m) d₂ d₃ r₃) where
+        pub third_refused : (k : Refusal) → r₃ ≡ Err k → Shown (unpack_planes (colour_planes s w h) work body) d₃ (refused (number k))
+        third_refused k is = as_colours _ _ (chain_read _ _ _ _ _ e₁ _ n read₁ _ _ (chain_read _ _ _ _ _ e₂ _ m read₂ _ _ (chain_refused _ _ _ _ _ e₃ _ k is)))
+
+        pub third_read : (k : ℕ) → r₃ ≡ Ok k → Shown (unpack_planes (colour_planes s w h) work body) d₃ (counted (n + m + k))
+        third_read k is =
+            let u = as_colours _ _ (chain_read _ _ _ _ _ e₁ _ n read₁ _ _ (chain_read _ _ _ _ _ e₂ _ m read₂ _ _ (chain_last _ _ _ _ _ e₃ k is))) in
+            (ap counted (add_assoc n m k) ∙ u.0, u.1)
+
+  -- the sides of a plane that was read have bounds, and so have their products
+  pub areas : (d₁ : List ℕ) (r₁ : Result ℕ Refusal) (n : ℕ) → PlaneRead (plane_at w h 0) body work d₁ r₁ → r₁ ≡ Ok n → (w * h ≤ 67108864) × (cw * ch ≤ 67108864)
+  areas d₁ r₁ n e₁ is =
+      let l = read_sides w h (length work - 0) body n (sym e₁.0 ∙ ap to_answer is) in
+      (area_max w h l.0 l.1, area_max cw ch (omega (arith, is_w, chroma_side-max s w, l.0)) (omega (arith, is_h, chroma_side-max s h, l.1)))
 
 -- ---- alpha
 
--- one plane from the start of the body
-pub alpha_plane : (width height offset : ℕ) (body work after : List ℕ) (alpha : Bool) (r : Result ℕ Refusal) → alpha ≡ true → PlaneRead (plane_at width height offset) body work after 0 r
+-- one plane
+pub alpha_plane : (width height offset : ℕ) (body work after : List ℕ) (alpha : Bool) (r : Result ℕ Refusal) → alpha ≡ true → PlaneRead (plane_at width height offset) body work after r
     → PlanesRead (unpack_planes (alpha_planes_at offset alpha width height) work body) after r
 unfolding alpha_planes_at
-alpha_plane width height offset body work after alpha r t e =
-    let head : PlanesInvariant (plane_at width height offset ∷ []) (plane_at width height offset ∷ []) body work work 0 0 = planes_start _ _ body work 0 refl (omega arith) in
-    let u = planes_last_read (plane_at width height offset ∷ []) (plane_at width height offset) body work work after 0 0 r head e in
-    rw t (rw (add_read_0 (unpack_planes (plane_at width height offset ∷ []) work body)) at u)
+alpha_plane width height offset body work after alpha r t e = rw t (go r e)
+  where
+    go : (r : Result ℕ Refusal) → PlaneRead (plane_at width height offset) body work after r → PlanesRead (unpack_planes (plane_at width height offset ∷ []) work body) after r
+    go (Ok n) e = chain_last _ _ _ _ (Ok n) e n refl
+    go (Err k) e = chain_refused _ _ _ _ (Err k) e [] k refl
 
 pub no_alpha_plane : (width height offset : ℕ) (body work : List ℕ) (alpha : Bool) → alpha ≡ false → PlanesRead (unpack_planes (alpha_planes_at offset alpha width height) work body) work (Ok 0)
 unfolding alpha_planes_at unpack_planes
@@ -182,17 +204,18 @@ no_alpha_plane width height offset body work alpha t = rw t (refl, refl)
 
 module _ (header : BitmapStreamHeader) (width height offset : ℕ) (body work₀ work : List ℕ) (r : Result ℕ Refusal)
     (e : PlanesRead (unpack_planes (alpha_planes_at offset header.use_alpha width height) work₀ body) work r) where
-  pub alpha_refused : (q : Refusal) → r ≡ Err q → (up : Result ℕ Refusal) → IsErrAnd up (λ (k : Refusal). k ≡ q)
-      → PlanesRead (unpack_planes (planes_with_alpha_at offset header width height) work₀ body) work up
+  pub alpha_refused : (k : Refusal) → r ≡ Err k → Shown (unpack_planes (planes_with_alpha_at offset header width height) work₀ body) work (refused (number k))
   unfolding planes_with_alpha_at
-  alpha_refused q er up is = rw (planes_append_refused (alpha_planes_at offset header.use_alpha width height) (colour_planes (subsampled header.color_plane_definition) width height) work₀ body (number q) (sym e.0 ∙ ap to_answer er)) (passed_up up q is ∙ sym (ap to_answer er) ∙ e.0, e.1)
+  alpha_refused k er =
+      rw (planes_append_refused (alpha_planes_at offset header.use_alpha width height) (colour_planes (subsampled header.color_plane_definition) width height) work₀ body (number k) (sym e.0 ∙ ap to_answer er))
+      (sym (ap to_answer er) ∙ e.0, e.1)
 
   -- the colour planes go on where alpha stopped
-  pub colours_after_alpha : (n : ℕ) → r ≡ Ok n → (s : Bool) → s ≡ subsampled header.color_plane_definition → (after : List ℕ) (q : Result ℕ Refusal)
-      → PlanesRead (add_read n (unpack_planes (colour_planes s width height) work (drop n body))) after q → PlanesRead (unpack_planes (planes_with_alpha_at offset header width height) work₀ body) after q
-  unfolding planes_with_alpha_at
-  colours_after_alpha n er s es after q u =
-      let all : unpack_planes (planes_with_alpha_at offset header width height) work₀ body ≡ add_read n (unpack_planes (colour_planes s width height) work (drop n body)) =
+  pub colours_after_alpha : (n : ℕ) → r ≡ Ok n → (s : Bool) → s ≡ subsampled header.color_plane_definition → (after : List ℕ) (a : Answer)
+      → Shown (unpack_planes (colour_planes s width height) work (suffix body n)) after a → Shown (unpack_planes (planes_with_alpha_at offset header width height) work₀ body) after (add_count n a)
+  unfolding planes_with_alpha_at add_read
+  colours_after_alpha n er s es after a u =
+      let all : unpack_planes (planes_with_alpha_at offset header width height) work₀ body ≡ add_read n (unpack_planes (colour_planes s width height) work (suffix body n)) =
       planes_append (alpha_planes_at offset header.use_alpha width height) (colour_planes (subsampled header.color_plane_definition) width height) work₀ body n (sym e.0 ∙ ap to_answer er)
-      ∙ (λ i. add_read n (unpack_planes (colour_planes (sym es i) width height) (sym e.1 i) (drop n body))) in
-      rw all u
+      ∙ (λ i. add_read n (unpack_planes (colour_planes (sym es i) width height) (sym e.1 i) (sym (suffix_drop body n) i))) in
+      (ap (add_count n) u.0 ∙ sym (ap (λ (u : PlanesOutcome). u.answer) all), u.1 ∙ sym (ap (λ (u : PlanesOutcome). u.work) all))
