@@ -21,10 +21,14 @@ use rle_format::Refusal;
 fn alpha_offset(picture: Picture) -> usize
     ensures { result ≡ alpha_offset_of (format_to_form picture.format) picture.header picture.width picture.height }
 {
-    let PixelFormat::FourBytes(_) = picture.format else {
-        return 0;
-    };
-    color_planes_size(picture.header, picture.width, picture.height)
+    match picture.format {
+        PixelFormat::Rgb24 => 0,
+        PixelFormat::FourBytes(_) => color_planes_size(
+            picture.header,
+            picture.width,
+            picture.height,
+        ),
+    }
 }
 
 // Unpacks an RLE picture that passed all checks. The image is written after the last plane is read, so that no refusal changes it.

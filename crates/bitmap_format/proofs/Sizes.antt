@@ -146,17 +146,16 @@ module _ (header : BitmapStreamHeader) (w h : ℕ) (s : Bool) (es : s ≡ subsam
       → colour ≡ sum_over (min_plane_size_of false) (colour_planes s w h) → alpha + colour ≡ work_size_of form header w h
   work_size_of_lem form alpha colour e ea ec = (λ i. ea i + colour_planes_size_of colour ec i) ∙ sym (work_size_rle form header w h e)
 
--- three-byte pixels show no alpha
+-- alpha is shown where it is flagged, by four-byte pixels
+pub shown_unflagged : (form : PixelForm) (flagged : Bool) (w h : ℕ) → flagged ≡ false → 0 ≡ shown_alpha_size_of form flagged w h
+shown_unflagged three_bytes flagged w h e = refl
+shown_unflagged (four_bytes p) flagged w h e = sym (choose_false _ _ _ e)
+
 pub shown_three : (format : PixelFormat) (flagged : Bool) (w h : ℕ) → format ≡ Rgb24 → 0 ≡ shown_alpha_size_of (format_to_form format) flagged w h
 shown_three format flagged w h e = sym (ap (λ (k : PixelFormat). shown_alpha_size_of (format_to_form k) flagged w h) e)
 
--- alpha that four-byte pixels show
-module _ (format : PixelFormat) (layout : PixelLayout) (flagged : Bool) (w h : ℕ) (four : format ≡ FourBytes layout) where
-  pub shown_flagged : flagged ≡ true → w * h ≡ shown_alpha_size_of (format_to_form format) flagged w h
-  shown_flagged e = sym (λ i. shown_alpha_size_of (format_to_form (four i)) (e i) w h)
-
-  pub shown_unflagged : flagged ≡ false → 0 ≡ shown_alpha_size_of (format_to_form format) flagged w h
-  shown_unflagged e = sym (λ i. shown_alpha_size_of (format_to_form (four i)) (e i) w h)
+pub shown_four : (format : PixelFormat) (layout : PixelLayout) (flagged : Bool) (w h : ℕ) → format ≡ FourBytes layout → flagged ≡ true → w * h ≡ shown_alpha_size_of (format_to_form format) flagged w h
+shown_four format layout flagged w h four e = sym (λ i. shown_alpha_size_of (format_to_form (four i)) (e i) w h)
 
 -- ---- the image
 

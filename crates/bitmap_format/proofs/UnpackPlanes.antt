@@ -2,7 +2,7 @@
 use Prim.Native.Nat.{ℕ, ◌+◌, ◌-◌, ◌≤◌}
 use mathlib.Core.Path.{◌≡◌, refl, sym, ap, ◌∙◌}
 use mathlib.Core.List.{List, [], ◌∷◌, ◌++◌}
-use native.Mathlib.Nat.{add-zero, zero-add, add_assoc}
+use native.Mathlib.Nat.{zero-add, add_assoc}
 use native.Mathlib.Omega.{arith}
 use lib.ListN.{length, drop, length-drop}
 use lib.Seq.{drop-drop}
@@ -47,65 +47,6 @@ pub read_within : (p : PlaneAt) (work body : List ℕ) (n : ℕ) → (unpack_pla
 read_within p work body n e =
     let b = rw e at (plane_bounded p.width p.height (length work - p.offset) body) in
     omega arith
-
--- ---- a chain of planes: what is left to do from here is what was to do from the start. `from` is the index in the body where the
--- chain began, `at` where it is now
-
-pub record PlanesInvariant (all after_first : List PlaneAt) (body work₀ work : List ℕ) (from at : ℕ) : Type 0 where
-  pub whole : add_read from (unpack_planes all work₀ (drop from body)) ≡ add_read at (unpack_planes after_first work (drop at body))
-  pub len : length work ≡ length work₀
-  pub low : at ≤ length body
-
--- the list may be written as the code computes it
-pub planes_start : (all after_first : List PlaneAt) (body work : List ℕ) (from : ℕ) → all ≡ after_first → from ≤ length body → PlanesInvariant all after_first body work work from from
-planes_start all after_first body work from e l = record {
-  whole = ap (λ (ps : List PlaneAt). add_read from (unpack_planes ps work (drop from body))) e;
-  len = refl;
-  low = l;
-}
-
-module _ (all after_first : List PlaneAt) (p : PlaneAt) (body work₀ work after : List ℕ) (from at : ℕ) (h : PlanesInvariant all (p ∷ after_first) body work₀ work from at)
-    (wrote : after ≡ work_after p work (drop at body)) where
-  -- the plane was read, up to index m
-  pub planes_step : (m : ℕ) → counted m ≡ add_count at (unpack_plane_at p work (drop at body)).answer → length after ≡ length work → PlanesInvariant all after_first body work₀ after from m
-  planes_step m e l = go (unpack_plane_at p work (drop at body)).answer refl e
-    where
-      go : (a : Answer) → (unpack_plane_at p work (drop at body)).answer ≡ a → counted m ≡ add_count at a → PlanesInvariant all after_first body work₀ after from m
-      go (refused r) ea e = refused_not_counted (sym e)
-      go (counted n) ea e =
-          let em : m ≡ at + n = cc in
-          let bn : n ≤ length (drop at body) = read_within p work (drop at body) n ea in
-          let bl : length (drop at body) ≡ length body - at = length-drop at body in
-          record {
-            whole = h.whole
-                ∙ ap (add_read at) (unpack_planes_read p after_first work (drop at body) n ea)
-                ∙ add_read-add_read at n (unpack_planes after_first (work_after p work (drop at body)) (drop n (drop at body)))
-                ∙ (λ i. add_read (sym em i) (unpack_planes after_first (sym wrote i) ((drop-drop n at body ∙ ap (λ (k : ℕ). drop k body) (sym em)) i)));
-            len = l ∙ h.len;
-            low = omega (arith, h.low);
-          }
-
-  -- it was refused
-  pub planes_refusal : (r : ℕ) → refused r ≡ add_count at (unpack_plane_at p work (drop at body)).answer
-      → add_read from (unpack_planes all work₀ (drop from body)) ≡ record { work = after; answer = refused r }
-  unfolding add_read
-  planes_refusal r e = go (unpack_plane_at p work (drop at body)).answer refl e
-    where
-      go : (a : Answer) → (unpack_plane_at p work (drop at body)).answer ≡ a → refused r ≡ add_count at a → add_read from (unpack_planes all work₀ (drop from body)) ≡ record { work = after; answer = refused r }
-      go (counted n) ea e = refused_not_counted e
-      go (refused q) ea e = h.whole ∙ ap (add_read at) (unpack_planes_refused p after_first work (drop at body) q ea) ∙ (λ i. record { work = sym wrote i; answer = sym e i })
-
--- the last plane, read or refused
-pub planes_last : (all : List PlaneAt) (p : PlaneAt) (body work₀ work after : List ℕ) (from at : ℕ) → PlanesInvariant all (p ∷ []) body work₀ work from at
-    → after ≡ work_after p work (drop at body) → (a : Answer) → a ≡ add_count at (unpack_plane_at p work (drop at body)).answer
-    → add_read from (unpack_planes all work₀ (drop from body)) ≡ record { work = after; answer = a }
-unfolding add_read unpack_planes
-planes_last all p body work₀ work after from at h wrote a ea = go (unpack_plane_at p work (drop at body)).answer refl ea
-  where
-    go : (b : Answer) → (unpack_plane_at p work (drop at body)).answer ≡ b → a ≡ add_count at b → add_read from (unpack_planes all work₀ (drop from body)) ≡ record { work = after; answer = a }
-    go (refused q) eb e = h.whole ∙ ap (add_read at) (unpack_planes_refused p [] work (drop at body) q eb) ∙ (λ i. record { work = sym wrote i; answer = sym e i })
-    go (counted n) eb e =
-        h.whole ∙ ap (add_read at) (unpack_planes_read p [] work (drop at body) n eb) ∙ (λ i. record { work = sym wrote i; answer = (ap (λ (k : ℕ). counted (at + k)) (add-zero n) ∙ sym e) i })
 
 -- ---- two lists of planes: the second goes on where the first stopped, unless that was refused
 

@@ -126,13 +126,13 @@ pub fn shown_alpha_size(format: PixelFormat, flagged: bool, width: usize, height
     let Ok(sides) = ValidSides::new(width, height) else {
         return 0;
     };
-    let PixelFormat::FourBytes(_) = format else {
+    if !flagged {
         return 0;
-    };
-    if flagged {
-        return sides.area();
     }
-    0
+    match format {
+        PixelFormat::Rgb24 => 0,
+        PixelFormat::FourBytes(_) => sides.area(),
+    }
 }
 
 // The minimum size of the work area, or 0 if the sides are refused. For a raw picture it is 0.
