@@ -5,7 +5,7 @@ use Rattle.bitmap_format.specs.Colour.{rgb, aycocg_colour}
 use Rattle.bitmap_color.specs.ColourOrBlack.{colour_or_black}
 
 module _ (level : ℕ) where
-  abbrev Checked : Option ℕ → Type 0
+  abbrev pub Checked : Option ℕ → Type 0
   Checked known = known ≡ choose (level == 0 || nat_lt 7 level) None (Some level)
 
   -- a level that is known is the one that was given, and is not refused

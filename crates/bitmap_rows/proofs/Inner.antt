@@ -1,11 +1,13 @@
 -- What the inner functions test and write: the loss level, the plane definition, four-byte pixels.
 use Prim.Native.Nat.{ℕ, ◌+◌, ◌*◌, ◌/◌, ◌%◌, ◌<◌, ◌≤◌}
-use mathlib.Core.Bool.{Bool, true, false}
+use mathlib.Core.Bool.{Bool, true, false, ◌||◌}
 use mathlib.Core.Path.{◌≡◌, refl, sym, ap, ◌∙◌}
 use mathlib.Core.List.{List, [], ◌∷◌}
 use native.Mathlib.Omega.{arith}
 use lib.ListN.{length, get_or}
-use borrow.Author.Tests.{eq-eqb, ne_eqb, lt-ltb, le-ltb}
+use borrow.Author.Tests.{ne_eqb, le-ltb}
+use Rattle.std.specs.Prelude.{Some, None, ◌==◌, nat_lt}
+use Rattle.rle_format.specs.Choice.{choose}
 use Rattle.rle_format.specs.Slice.{overwrite}
 use Rattle.pixel_format.specs.declared.PixelLayout.{PixelLayout}
 use Rattle.pixel_format.specs.declared.PixelLayout.TheVariants.{BgrA, RgbA, ARgb, ABgr}
@@ -18,43 +20,48 @@ use Rattle.bitmap_format.specs.Planes.{subsampled, chroma_side_of}
 use Rattle.bitmap_format.specs.Image.{chroma_index}
 use Rattle.bitmap_format.specs.Picture.{is_loss_level_invalid_of}
 use Rattle.bitmap_format.specs.Pixels.{PixelForm, four_bytes, pixel_bytes}
+use Rattle.bitmap_color.proofs.Colour.{Checked, level_known, level_refused}
 use Rattle.bitmap_rows.specs.Rows.{pixel_at, row_pixels}
 use Rattle.bitmap_rows.specs.Inner.{if_level_valid, write_fitting_row, word_bytes, alpha_first_of, colour_flag, arranged, arranged_at, write_arranged}
 use Rattle.bitmap_rows.proofs.Rows.{concat_up_to_same}
 
--- ---- the loss level
-
-module _ (level : ℕ) (s : Bool) (pixels dst : List ℕ) where
-  pub level_0 : level ≡ 0 → dst ≡ if_level_valid (AYCoCg level s) pixels dst
-  unfolding is_loss_level_invalid_of
-  level_0 e = simp (eq-eqb level 0 e)
-
-  pub level_over_7 : (level ≡ 0 → ⊥) → 7 < level → dst ≡ if_level_valid (AYCoCg level s) pixels dst
-  unfolding is_loss_level_invalid_of
-  level_over_7 n h = simp (ne_eqb level 0 n, lt-ltb 7 level h)
-
-  pub level_valid : (level ≡ 0 → ⊥) → level ≤ 7 → if_level_valid (AYCoCg level s) pixels dst ≡ overwrite dst pixels
-  unfolding is_loss_level_invalid_of
-  level_valid n h = simp (ne_eqb level 0 n, le-ltb 7 level h)
-
 -- ---- a row by its plane definition
 
-module _ (d : ColorPlaneDefinition) (width n : ℕ) where
-  pub argb_side : d ≡ Argb → chroma_side_of (subsampled d) width ≤ n → width ≤ n
+-- the sides of the chroma planes: s is what is known of the rows
+module _ (d : ColorPlaneDefinition) (s : Bool) (is : s ≡ subsampled d) where
+  pub argb_side : (width n : ℕ) → d ≡ Argb → chroma_side_of s width ≤ n → width ≤ n
   unfolding chroma_side_of
-  argb_side e l = rw e at l
+  argb_side width n e l = let z : s ≡ false = is ∙ ap subsampled e in rw z at l
 
-  pub aycocg_side : (level : ℕ) (s : Bool) → d ≡ AYCoCg level s → chroma_side_of (subsampled d) width ≤ n → chroma_side_of s width ≤ n
-  aycocg_side level s e l = rw e at l
+  pub full_side : (level : ℕ) (t : Bool) (width n : ℕ) → d ≡ AYCoCg level t → t ≡ false → chroma_side_of s width ≤ n → width ≤ n
+  unfolding chroma_side_of
+  full_side level t width n e et l = let z : s ≡ false = is ∙ ap subsampled e ∙ et in rw z at l
 
+-- the loss level of a row
 module _ (form : PixelForm) (d : ColorPlaneDefinition) (flagged : Bool) (first second third alpha : List ℕ) (width : ℕ) (dst : List ℕ) where
+  abbrev pixels : ColorPlaneDefinition → List ℕ
+  pixels k = row_pixels form k flagged first second third alpha width
+
   pub argb_row : d ≡ Argb → overwrite dst (row_pixels form Argb true first second third alpha width) ≡ write_fitting_row form d flagged first second third alpha width dst
   unfolding is_loss_level_invalid_of
   argb_row e = ap (λ (k : ColorPlaneDefinition). write_fitting_row form k flagged first second third alpha width dst) (sym e)
 
-  pub aycocg_row : (level : ℕ) (s : Bool) → d ≡ AYCoCg level s
-      → write_fitting_row form (AYCoCg level s) flagged first second third alpha width dst ≡ write_fitting_row form d flagged first second third alpha width dst
-  aycocg_row level s e = ap (λ (k : ColorPlaneDefinition). write_fitting_row form k flagged first second third alpha width dst) (sym e)
+  module _ (level : ℕ) (s : Bool) (e : d ≡ AYCoCg level s) where
+    invalid : is_loss_level_invalid_of d ≡ (level == 0 || nat_lt 7 level)
+    unfolding is_loss_level_invalid_of
+    invalid = ap is_loss_level_invalid_of e
+
+    -- a level that is refused
+    pub refused_row : Checked level None → dst ≡ write_fitting_row form d flagged first second third alpha width dst
+    refused_row c = sym (ap (λ (t : Bool). choose t dst (overwrite dst (pixels d))) (invalid ∙ level_refused level c))
+
+    -- and one that is known
+    pub known_row : (known : ℕ) → Checked level (Some known) → overwrite dst (pixels (AYCoCg known s)) ≡ write_fitting_row form d flagged first second third alpha width dst
+    known_row known c =
+        let k = level_known level known c in
+        ap (λ (n : ℕ). overwrite dst (pixels (AYCoCg n s))) k.0
+        ∙ ap (λ (k : ColorPlaneDefinition). overwrite dst (pixels k)) (sym e)
+        ∙ sym (ap (λ (t : Bool). choose t dst (overwrite dst (pixels d))) (invalid ∙ k.1))
 
 -- ---- four-byte pixels
 
@@ -87,6 +94,11 @@ arranged_pixel ARgb true level y co cg alpha = refl
 arranged_pixel ARgb false level y co cg alpha = refl
 arranged_pixel ABgr true level y co cg alpha = refl
 arranged_pixel ABgr false level y co cg alpha = refl
+
+-- a level that is known
+pub level_valid : (level : ℕ) (s : Bool) (pixels dst : List ℕ) → 1 ≤ level → level ≤ 7 → if_level_valid (AYCoCg level s) pixels dst ≡ overwrite dst pixels
+unfolding is_loss_level_invalid_of
+level_valid level s pixels dst l h = simp (ne_eqb level 0 (λ e. omega arith), le-ltb 7 level h)
 
 -- a row of such pixels
 pub arranged_row : (layout : PixelLayout) (flagged : Bool) (level : ℕ) (y co cg alpha : List ℕ) (width : ℕ) (dst : List ℕ) (leading flag : Bool)

@@ -2,7 +2,7 @@
 use Prim.Native.Nat.{ℕ, zero, suc, ◌+◌, ◌-◌, ◌*◌, ◌/◌, ◌%◌, ◌≤◌}
 use mathlib.Core.Bool.{Bool, true, false}
 use mathlib.Core.Path.{◌≡◌, refl, sym, ap, ◌∙◌}
-use mathlib.Core.List.{List, [], ◌∷◌}
+use mathlib.Core.List.{List, [], ◌∷◌, ◌++◌, append_assoc}
 use native.Mathlib.Nat.{mul_comm}
 use native.Mathlib.Omega.{arith}
 use native.Mathlib.Numerals.{add-one}
@@ -23,13 +23,17 @@ use Rattle.bitmap_rows.specs.Rows.{pixel_at}
 add_0 : (n : ℕ) → n + 0 ≡ n
 add_0 n = omega arith
 
--- three stores, one after the other
+-- two stores, one after the other
+pub write_two : (d : List ℕ) (at a b : ℕ) → at + 2 ≤ length d → set (set d at a) (at + 1) b ≡ write_at d at (a ∷ b ∷ [])
+write_two d at a b fits =
+    (λ i. set (set (sym (write_at_nil d at) i) (sym (add_0 at) i) a) (at + 1) b)
+    ∙ (λ i. set (write_at_snoc d at [] a (omega arith) i) (at + 1) b)
+    ∙ write_at_snoc d at (a ∷ []) b (omega arith)
+
+-- three stores
 pub write_three : (d : List ℕ) (at a b c : ℕ) → at + 3 ≤ length d → set (set (set d at a) (at + 1) b) (at + 2) c ≡ write_at d at (a ∷ b ∷ c ∷ [])
 write_three d at a b c fits =
-    (λ i. set (set (set (sym (write_at_nil d at) i) (sym (add_0 at) i) a) (at + 1) b) (at + 2) c)
-    ∙ (λ i. set (set (write_at_snoc d at [] a (omega arith) i) (at + 1) b) (at + 2) c)
-    ∙ (λ i. set (write_at_snoc d at (a ∷ []) b (omega arith) i) (at + 2) c)
-    ∙ write_at_snoc d at (a ∷ b ∷ []) c (omega arith)
+    (λ i. set (write_two d at a b (omega arith) i) (at + 2) c) ∙ write_at_snoc d at (a ∷ b ∷ []) c (omega arith)
 
 -- four stores
 pub write_four : (d : List ℕ) (at a b c e : ℕ) → at + 4 ≤ length d → set (set (set (set d at a) (at + 1) b) (at + 2) c) (at + 3) e ≡ write_at d at (a ∷ b ∷ c ∷ e ∷ [])
@@ -65,16 +69,6 @@ module _ (size : ℕ) (d₀ : List ℕ) (f : ℕ → List ℕ) (sized : (i : ℕ
             ∙ ap (λ (k : ℕ). overwrite d₀ (concat_up_to k f)) (sym (add-one column));
       }
 
-  -- two more pixels
-  pub pixels_pair_step : (d d₁ d₂ : List ℕ) (pair at₁ at₂ : ℕ) (a b : List ℕ) → PixelInvariant d₀ d (2 * pair) f
-      → a ≡ f (2 * pair) → at₁ ≡ size * (2 * pair) → length d₁ ≡ length d → d₁ ≡ write_at d at₁ a
-      → b ≡ f (2 * pair + 1) → at₂ ≡ size * (2 * pair + 1) → length d₂ ≡ length d₁ → d₂ ≡ write_at d₁ at₂ b → PixelInvariant d₀ d₂ (2 * (pair + 1)) f
-  pixels_pair_step d d₁ d₂ pair at₁ at₂ a b h ea p₁ l₁ e₁ eb p₂ l₂ e₂ =
-      let n : 2 * pair + 1 + 1 ≡ 2 * (pair + 1) = omega arith in
-      let one : PixelInvariant d₀ d₁ (2 * pair + 1) f = pixels_step d d₁ (2 * pair) at₁ a h ea p₁ l₁ e₁ in
-      let two : PixelInvariant d₀ d₂ (2 * pair + 1 + 1) f = pixels_step d₁ d₂ (2 * pair + 1) at₂ b one eb p₂ l₂ e₂ in
-      rw (← n) two
-
   -- the last pixel of an odd width
   module _ (d : List ℕ) (width : ℕ) (pairs : d ≡ overwrite d₀ (concat_up_to (2 * (width / 2)) f)) where
     pub pixels_even_width : (width % 2 ≡ 1 → ⊥) → d ≡ overwrite d₀ (concat_up_to width f)
@@ -91,11 +85,30 @@ module _ (size : ℕ) (d₀ : List ℕ) (f : ℕ → List ℕ) (sized : (i : ℕ
         let head : PixelInvariant d₀ d (width - 1) f = record { len = same; row = pairs ∙ ap (λ (k : ℕ). overwrite d₀ (concat_up_to k f)) n } in
         pixels_end d₀ d₁ (width - 1 + 1) width f (pixels_step d d₁ (width - 1) at vs head ev ea same₁ e) m
 
+-- ---- two pixels at a time
+
+concat_pairs : (f : ℕ → List ℕ) (n : ℕ) → concat_up_to n (λ (pair : ℕ). f (2 * pair) ++ f (2 * pair + 1)) ≡ concat_up_to (2 * n) f
+unfolding concat_up_to
+concat_pairs f zero = refl
+concat_pairs f (suc n) =
+    let double : 2 * suc n ≡ suc (suc (2 * n)) = omega arith in
+    ap (λ (l : List ℕ). l ++ (f (2 * n) ++ f (2 * n + 1))) (concat_pairs f n)
+    ∙ sym (append_assoc (concat_up_to (2 * n) f) (f (2 * n)) (f (2 * n + 1)))
+    ∙ ap (λ (k : ℕ). concat_up_to (2 * n) f ++ f (2 * n) ++ f k) (add-one (2 * n))
+    ∙ ap (λ (k : ℕ). concat_up_to k f) (sym double)
+
+pub pairs_written : (d₀ d : List ℕ) (n : ℕ) (f : ℕ → List ℕ) → d ≡ overwrite d₀ (concat_up_to n (λ (pair : ℕ). f (2 * pair) ++ f (2 * pair + 1))) → d ≡ overwrite d₀ (concat_up_to (2 * n) f)
+pairs_written d₀ d n f e = e ∙ ap (overwrite d₀) (concat_pairs f n)
+
 -- ---- the columns of chroma samples, by counting (FORMAT 6.3)
 
 -- not subsampled: the next column
-pub full_next : (column : ℕ) → IsChromaColumn false column column → IsChromaColumn false (column + 1) (column + 1)
+full_next : (column : ℕ) → IsChromaColumn false column column → IsChromaColumn false (column + 1) (column + 1)
 full_next column h width row below = column_next false column column h width row below ∙ ap (λ (k : ℕ). column + k) (step_full 1 column)
+
+pub column_counted : (column : ℕ) → IsChromaColumn false column column
+column_counted zero = column_first false
+column_counted (suc column) = rw (← add-one column) (full_next column (column_counted column))
 
 -- subsampled: `pair` is counted at an even column; the odd one behind it has the same counter
 pub pair_right : (pair : ℕ) → IsChromaColumn true (2 * pair) pair → IsChromaColumn true (2 * pair + 1) pair
@@ -104,7 +117,7 @@ pair_right pair h width row below =
     column_next true (2 * pair) pair h width row below ∙ omega (arith, none)
 
 -- and the column behind both the next
-pub pair_next : (pair : ℕ) → IsChromaColumn true (2 * pair) pair → IsChromaColumn true (2 * (pair + 1)) (pair + 1)
+pair_next : (pair : ℕ) → IsChromaColumn true (2 * pair) pair → IsChromaColumn true (2 * (pair + 1)) (pair + 1)
 pair_next pair h = rw (← behind) next
   where
     behind : 2 * pair + 1 + 1 ≡ 2 * (pair + 1)
@@ -138,14 +151,27 @@ aycocg_pixel flagged level s y co cg column counter c h ec =
 pub sample_at_lem : (samples : List ℕ) (column counter : ℕ) → IsChromaColumn true column counter → get_or samples counter 0 ∷ [] ≡ get_or samples (chroma_index true column) 0 ∷ []
 sample_at_lem samples column counter h = ap (λ (n : ℕ). get_or samples n 0 ∷ []) (column_is true column counter h)
 
+-- both samples of a pair
+pub doubled_pair : (samples : List ℕ) (pair : ℕ)
+    → get_or samples pair 0 ∷ get_or samples pair 0 ∷ [] ≡ get_or samples (chroma_index true (2 * pair)) 0 ∷ get_or samples (chroma_index true (2 * pair + 1)) 0 ∷ []
+doubled_pair samples pair =
+    let left = sample_at_lem samples (2 * pair) pair (pairs_counted pair) in
+    let right = sample_at_lem samples (2 * pair + 1) pair (pair_right pair (pairs_counted pair)) in
+    λ i. left i ++ right i
+
+-- both pixels of a pair
+pub pixel_pair : (flagged : Bool) (level : ℕ) (y co cg : List ℕ) (pair : ℕ)
+    → rgb24 (aycocg_colour flagged level (get_or y (2 * pair) 0) (get_or co pair 0) (get_or cg pair 0)) ++ rgb24 (aycocg_colour flagged level (get_or y (2 * pair + 1) 0) (get_or co pair 0) (get_or cg pair 0))
+    ≡ pixel_at three_bytes (AYCoCg level true) flagged y co cg [] (2 * pair) ++ pixel_at three_bytes (AYCoCg level true) flagged y co cg [] (2 * pair + 1)
+pixel_pair flagged level y co cg pair =
+    let left = aycocg_pixel flagged level true y co cg (2 * pair) pair _ (pairs_counted pair) refl in
+    let right = aycocg_pixel flagged level true y co cg (2 * pair + 1) pair _ (pair_right pair (pairs_counted pair)) refl in
+    λ i. left i ++ right i
+
 -- the chroma samples that a row needs
 pub chroma_subsampled : (s : Bool) (width n : ℕ) → s ≡ true → chroma_side_of s width ≤ n → (width + 1) / 2 ≤ n
 unfolding chroma_side_of
 chroma_subsampled s width n e l = rw e at l
-
-pub chroma_full : (s : Bool) (width n : ℕ) → s ≡ false → chroma_side_of s width ≤ n → width ≤ n
-unfolding chroma_side_of
-chroma_full s width n e l = rw e at l
 
 pub chroma_half : (width n : ℕ) → chroma_side_of true width ≤ n → (width + 1) / 2 ≤ n
 unfolding chroma_side_of

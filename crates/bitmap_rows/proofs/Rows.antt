@@ -13,6 +13,7 @@ use borrow.Author.Tests.{le-leb, lt-leb, leb-true}
 use Rattle.rle_format.specs.Choice.{choose}
 use Rattle.rle_format.specs.Slice.{overwrite}
 use Rattle.rle_format.proofs.Cases.{le_or_gt}
+use Rattle.pixel_format.specs.Channel.{ChannelOffsets}
 use Rattle.bitmap_format.specs.declared.ColorPlaneDefinition.{ColorPlaneDefinition}
 use Rattle.bitmap_format.specs.declared.ColorPlaneDefinition.TheVariants.{Argb, AYCoCg}
 use Rattle.bitmap_format.specs.Colour.{aycocg_colour}
@@ -29,55 +30,16 @@ and_false : (a : Bool) → (a && false) ≡ false
 and_false true = refl
 and_false false = refl
 
-and_left : (a b : Bool) → (a && b) ≡ true → a ≡ true
-and_left true b e = refl
-and_left false b e = e
-
-and_right : (a b : Bool) → (a && b) ≡ true → b ≡ true
-and_right true b e = e
-and_right false b e = let z : ◌≡◌ {A = ℕ} 0 1 = cc in absurd (omega arith)
-
 module _ (width chroma : ℕ) (first second third : List ℕ) where
   pub samples_fit_lem : width ≤ length first → chroma ≤ length second → chroma ≤ length third → samples_fit width chroma first second third ≡ true
   unfolding samples_fit
   samples_fit_lem h₁ h₂ h₃ = simp (le-leb width (length first) h₁, le-leb chroma (length second) h₂, le-leb chroma (length third) h₃)
-
-  pub samples_there : samples_fit width chroma first second third ≡ true → (width ≤ length first) × (chroma ≤ length second) × (chroma ≤ length third)
-  unfolding samples_fit
-  samples_there e =
-      let a : Bool = leb width (length first) in
-      let b : Bool = leb chroma (length second) in
-      let c : Bool = leb chroma (length third) in
-      let more : (b && c) ≡ true = and_right a (b && c) e in
-      (leb-true width (length first) (and_left a (b && c) e), leb-true chroma (length second) (and_left b c more), leb-true chroma (length third) (and_right b c more))
-
-  pub samples_no_first : length first < width → false ≡ samples_fit width chroma first second third
-  unfolding samples_fit
-  samples_no_first h = simp (lt-leb width (length first) h)
-
-  pub samples_no_second : width ≤ length first → length second < chroma → false ≡ samples_fit width chroma first second third
-  unfolding samples_fit
-  samples_no_second h₁ h₂ = simp (le-leb width (length first) h₁, lt-leb chroma (length second) h₂)
-
-  pub samples_by_third : width ≤ length first → chroma ≤ length second → leb chroma (length third) ≡ samples_fit width chroma first second third
-  unfolding samples_fit
-  samples_by_third h₁ h₂ = simp (le-leb width (length first) h₁, le-leb chroma (length second) h₂)
-
--- the test of a row, by what the calls before it answered
-pub samples_tested : (d : ColorPlaneDefinition) (width chroma : ℕ) (first second third : List ℕ) (s r t : Bool) → s ≡ subsampled d → chroma ≡ chroma_side_of s width
-    → r ≡ samples_fit width chroma first second third → r ≡ t → samples_fit width (chroma_side_of (subsampled d) width) first second third ≡ t
-samples_tested d width chroma first second third s r t es ec er et =
-    ap (λ (k : ℕ). samples_fit width k first second third) (sym (ec ∙ ap (λ (b : Bool). chroma_side_of b width) es)) ∙ sym er ∙ et
 
 -- chroma rows that have a sample for each column
 pub full_chroma_side : (d : ColorPlaneDefinition) (width : ℕ) → chroma_side_of (subsampled (full_chroma d)) width ≡ width
 unfolding chroma_side_of
 full_chroma_side Argb width = refl
 full_chroma_side (AYCoCg level s) width = refl
-
-pub full_samples_tested : (d : ColorPlaneDefinition) (width : ℕ) (first second third : List ℕ) (r t : Bool) → r ≡ samples_fit width width first second third → r ≡ t
-    → samples_fit width (chroma_side_of (subsampled (full_chroma d)) width) first second third ≡ t
-full_samples_tested d width first second third r t er et = ap (λ (k : ℕ). samples_fit width k first second third) (full_chroma_side d width) ∙ sym er ∙ et
 
 pub length-row_pixels : (form : PixelForm) (d : ColorPlaneDefinition) (flagged : Bool) (first second third alpha : List ℕ) (width : ℕ)
     → length (row_pixels form d flagged first second third alpha width) ≡ width * bytes_per_pixel_of form
@@ -91,10 +53,6 @@ module _ (form : PixelForm) (d : ColorPlaneDefinition) (flagged : Bool) (first s
   pub row_no_room : length dst < bytes_per_pixel_of form * width → dst ≡ write_row_of form d flagged first second third alpha width dst
   unfolding row_fits write_row_of
   row_no_room h = simp (lt-leb (bytes_per_pixel_of form * width) (length dst) h, and_false)
-
-  pub row_no_alpha : length alpha < shown_alpha form width → dst ≡ write_row_of form d flagged first second third alpha width dst
-  unfolding row_fits write_row_of
-  row_no_alpha h = simp (lt-leb (shown_alpha form width) (length alpha) h, and_false)
 
   pub row_no_samples : samples_fit width (chroma_side_of (subsampled d) width) first second third ≡ false → dst ≡ write_row_of form d flagged first second third alpha width dst
   unfolding row_fits write_row_of
@@ -128,6 +86,22 @@ module _ (form : PixelForm) (d : ColorPlaneDefinition) (flagged : Bool) (first s
     unfolding write_row_of
     row_written = rw row_fits_lem refl
 
+-- chroma rows that have a sample for each column, and alpha: one of them is too short
+pub row_missing : (p : ChannelOffsets) (d : ColorPlaneDefinition) (flagged : Bool) (first second third alpha : List ℕ) (width : ℕ) (dst : List ℕ)
+    → (samples_fit width width first second third && leb width (length alpha)) ≡ false → dst ≡ write_row_of (four_bytes p) (full_chroma d) flagged first second third alpha width dst
+unfolding row_fits write_row_of
+row_missing p d flagged first second third alpha width dst e =
+    let full : Bool = samples_fit width (chroma_side_of (subsampled (full_chroma d)) width) first second third in
+    let same : full ≡ samples_fit width width first second third = ap (λ (k : ℕ). samples_fit width k first second third) (full_chroma_side d width) in
+    let none = go (not (is_loss_level_invalid_of (full_chroma d))) full (leb width (length alpha)) (leb (4 * width) (length dst)) (ap (λ (t : Bool). t && leb width (length alpha)) same ∙ e) in
+    sym (ap (λ (t : Bool). choose t (overwrite dst (row_pixels (four_bytes p) (full_chroma d) flagged first second third alpha width)) dst) none)
+  where
+    go : (n a b r : Bool) → (a && b) ≡ false → (n && (a && (b && r))) ≡ false
+    go false a b r e = refl
+    go true false b r e = refl
+    go true true false r e = refl
+    go true true true r e = absurd cc
+
 -- the same for chroma rows that have a sample for each column
 pub full_chroma_level : (d : ColorPlaneDefinition) → is_loss_level_invalid_of (full_chroma d) ≡ is_loss_level_invalid_of d
 unfolding is_loss_level_invalid_of
@@ -144,14 +118,6 @@ full_row_written form d flagged first second third alpha width dst valid h₁ h�
 -- ---- doubled samples
 
 module _ (samples : List ℕ) (width : ℕ) (dst : List ℕ) where
-  pub doubled_no_samples : length samples < chroma_side_of true width → dst ≡ write_doubled samples width dst
-  unfolding write_doubled
-  doubled_no_samples h = simp (lt-leb (chroma_side_of true width) (length samples) h)
-
-  pub doubled_no_room : length dst < width → dst ≡ write_doubled samples width dst
-  unfolding write_doubled
-  doubled_no_room h = simp (lt-leb width (length dst) h, and_false)
-
   -- for a caller that knows the lengths
   pub doubled_written : chroma_side_of true width ≤ length samples → width ≤ length dst → write_doubled samples width dst ≡ overwrite dst (doubled samples width)
   unfolding write_doubled

@@ -11,7 +11,7 @@ use Rattle.bitmap_format.specs.Colour.{aycocg_colour}
 use Rattle.bitmap_format.specs.Image.{concat_up_to}
 use Rattle.bitmap_format.specs.Picture.{is_loss_level_invalid_of}
 use Rattle.bitmap_format.specs.Pixels.{PixelForm}
-use Rattle.bitmap_rows.specs.declared.pixels.Quad.{Quad}
+use Rattle.bitmap_rows.specs.declared.pixel.Quad.{Quad}
 use Rattle.bitmap_rows.specs.Rows.{row_pixels}
 
 -- the destination after a call that only tests the loss level, not the lengths
@@ -25,10 +25,7 @@ write_fitting_row form d flagged first second third alpha width dst = if_level_v
 abbrev pub word_bytes : ℕ → List ℕ
 word_bytes word = word % 256 ∷ word / 256 % 256 ∷ word / 65536 % 256 ∷ word / 16777216 % 256 ∷ []
 
--- n pixels of four bytes, one from each row
-abbrev pub joined : (first second third fourth : List ℕ) (n : ℕ) → List ℕ
-joined first second third fourth n = concat_up_to n (λ (i : ℕ). get_or first i 0 ∷ get_or second i 0 ∷ get_or third i 0 ∷ get_or fourth i 0 ∷ [])
-
+-- the bytes of a pixel as it is written
 abbrev pub quad_bytes : Quad → List ℕ
 quad_bytes p = p.first ∷ p.second ∷ p.third ∷ p.fourth ∷ []
 

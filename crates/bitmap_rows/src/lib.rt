@@ -3,52 +3,48 @@
 #![tactic(auto)]
 
 mod chroma;
-mod join;
+mod fitting;
+mod pixel;
 mod pixels;
 mod rgb24;
 
 ghost use Rattle.std.specs.Prelude.{◌≡◌, []};
 ghost use Rattle.pixel_format.specs.Channel.{channel_offsets};
 ghost use Rattle.bitmap_format.specs.Pixels.{three_bytes, four_bytes};
-ghost use Rattle.bitmap_rows.specs.Rows.{samples_fit, write_row_of, full_chroma, write_doubled};
+ghost use Rattle.bitmap_rows.specs.Rows.{write_row_of, full_chroma, write_doubled};
 
 use bitmap_format::{ColorPlaneDefinition, chroma_side, has_subsampled_chroma};
 use chroma::double_fitting;
+use fitting::{FittingPixels, FittingRow};
 use pixel_format::PixelLayout;
 use pixels::write_pixels;
 use rgb24::write_rgb24_pixels;
 
-// Whether the rows have a sample for each column, given the number of chroma columns.
-fn has_samples(first: &[u8], second: &[u8], third: &[u8], width: usize, chroma: usize) -> bool
-    ensures { result ≡ samples_fit width chroma first.now second.now third.now }
-{
-    if first.len() < width {
-        return false;
-    }
-    if second.len() < chroma {
-        return false;
-    }
-    chroma <= third.len()
+// What the colours of a picture depend on besides its samples: its plane definition and its alpha flag.
+#[derive(Clone, Copy)]
+pub struct ColorRule {
+    pub definition: ColorPlaneDefinition,
+    pub flagged: bool,
+}
+
+// A row of each colour plane: of R, G and B, or of Y, Co and Cg.
+#[derive(Clone, Copy)]
+pub struct RowSamples<'a> {
+    pub first: &'a [u8],
+    pub second: &'a [u8],
+    pub third: &'a [u8],
 }
 
 // Writes a row of three-byte pixels (FORMAT 6.1).
-pub fn write_rgb24_row(
-    definition: ColorPlaneDefinition,
-    flagged: bool,
-    first: &[u8],
-    second: &[u8],
-    third: &[u8],
-    dst: &mut [u8],
-    width: usize,
-)
-    ensures { dst.new ≡ write_row_of three_bytes definition flagged first.now second.now third.now [] width dst.old }
+pub fn write_rgb24_row(rule: ColorRule, samples: RowSamples<'_>, dst: &mut [u8], width: usize)
+    ensures { dst.new ≡ write_row_of three_bytes rule.definition rule.flagged samples.entry.first.now samples.entry.second.now samples.entry.third.now [] width dst.old }
 {
-    let chroma = chroma_side(has_subsampled_chroma(definition), width);
     if dst.len() / 3 < width {
         return;
     }
-    if has_samples(first, second, third, width, chroma) {
-        write_rgb24_pixels(definition, flagged, first, second, third, dst, width);
+    let subsampling = has_subsampled_chroma(rule.definition);
+    if let Some(row) = FittingRow::new(samples, width, subsampling) {
+        write_rgb24_pixels(rule, row, dst);
     }
 }
 
@@ -56,39 +52,28 @@ pub fn write_rgb24_row(
 // `double_samples`.
 pub fn write_pixel_row(
     layout: PixelLayout,
-    definition: ColorPlaneDefinition,
-    flagged: bool,
-    first: &[u8],
-    second: &[u8],
-    third: &[u8],
+    rule: ColorRule,
+    samples: RowSamples<'_>,
     alpha: &[u8],
     dst: &mut [u8],
     width: usize,
 )
-    ensures { dst.new ≡ write_row_of (four_bytes (channel_offsets layout)) (full_chroma definition) flagged first.now second.now third.now alpha.now width dst.old }
+    ensures { dst.new ≡ write_row_of (four_bytes (channel_offsets layout)) (full_chroma rule.definition) rule.flagged samples.entry.first.now samples.entry.second.now samples.entry.third.now alpha.now width dst.old }
 {
-    if alpha.len() < width {
-        return;
-    }
     if dst.len() / 4 < width {
         return;
     }
-    if has_samples(first, second, third, width, width) {
-        write_pixels(
-            layout, definition, flagged, first, second, third, alpha, dst, width,
-        );
+    if let Some(pixels) = FittingPixels::new(samples, alpha, width) {
+        write_pixels(layout, rule, pixels, dst);
     }
 }
 
 // Writes the chroma samples of a subsampled row, one for each column (FORMAT 6.3).
+#[tactic(auto, unfolding(crate::specs::Rows::write_doubled))]
 pub fn double_samples(samples: &[u8], doubled: &mut [u8], width: usize)
     ensures { doubled.new ≡ write_doubled samples.now width doubled.old }
 {
-    if samples.len() < chroma_side(true, width) {
-        return;
+    if chroma_side(true, width) <= samples.len() && width <= doubled.len() {
+        double_fitting(samples, doubled, width);
     }
-    if doubled.len() < width {
-        return;
-    }
-    double_fitting(samples, doubled, width);
 }

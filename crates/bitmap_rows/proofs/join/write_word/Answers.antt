@@ -1,6 +1,0 @@
--- `write_word`: four stores one after the other are one write.
-use Rattle.bitmap_rows.proofs.PixelLoop.{write_four}
-use Rattle.bitmap_rows.proofs.join.write_word.Goals as goal
-
-pub returns : goal.returns
-returns c = write_four _ _ _ _ _ _ c.requires

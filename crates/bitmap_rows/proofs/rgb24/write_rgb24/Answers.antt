@@ -1,6 +1,0 @@
--- `write_rgb24`: three stores one after the other are one write.
-use Rattle.bitmap_rows.proofs.PixelLoop.{write_three}
-use Rattle.bitmap_rows.proofs.rgb24.write_rgb24.Goals as goal
-
-pub returns : goal.returns
-returns c = write_three _ _ _ _ _ c.requires
