@@ -29,7 +29,7 @@ use Rattle.bitmap_format.specs.Counting.{counter_step, next_in_row, next_row, ne
 use Rattle.bitmap_format.specs.CountingExamples as counting
 
 pub examples_hold : map computed examples ≡ map expected examples
-unfolding pack_plane write_segments packing plane_segments codes_at row_at row_segments scan_segments split_segments long_run delta_code difference unpack_plane unpack_rows read_row read_segment raw_count run_length undo_delta difference_from_code check_sides_of stop prepend overwrite write_at first_refusal_of signed_byte chroma_value_of clip ycocg aycocg_colour chroma_side_of first_plane second_plane third_plane colour_planes alpha_planes_at planes_with_alpha_at alpha_at sum_over min_body_size_of work_size_of row_size image_size_of sample chroma_index colour_at concat_up_to image_row write_rows add_read unpack_planes is_loss_level_invalid_of check_picture write_image unpack_raw image_from_work unpack_rle unpack_to
+unfolding pack_plane write_segments packing plane_segments codes_at row_at row_segments scan_segments split_segments long_run delta_code difference unpack_plane unpack_rows read_row read_segment raw_count run_length undo_delta difference_from_code check_sides_of stop prepend overwrite write_at first_refusal_of signed_byte chroma_value_of clip ycocg aycocg_colour chroma_side_of first_plane second_plane third_plane colour_planes alpha_planes_at planes_with_alpha_at alpha_at sum_over min_body_size_of work_size_of row_size image_size_of sample chroma_index colour_at concat_up_to image_row write_rows add_read unpack_planes is_loss_level_invalid_of check_picture write_image unpack_raw image_from_work unpack_rle unpack_to definition_bits_of header_to_byte_of
 examples_hold = refl
 
 pub pack_examples_hold : map packed.computed packed.examples ≡ map packed.expected packed.examples

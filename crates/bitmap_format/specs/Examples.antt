@@ -1,16 +1,22 @@
 -- Examples of pictures that are unpacked, worked out by hand, and the examples of planes of FORMAT 10: one constant list, what the
 -- definitions compute for each, and what is expected. proofs/Examples.antt has the one proof.
-use Rattle.std.specs.Prelude.{ℕ, Bool, true, false, List, [], ◌∷◌, ◌++◌, map, length, replicate, Result, Ok, Err}
+use mathlib.Core.Path.{refl}
+use Rattle.std.specs.Prelude.{◌≡◌, ℕ, Bool, true, false, List, [], ◌∷◌, ◌++◌, map, length, replicate, Result, Ok, Err}
 use Rattle.rle_format.specs.declared.Refusal.{Refusal}
-use Rattle.rle_format.specs.declared.Refusal.TheVariants.{ShortImage}
+use Rattle.rle_format.specs.declared.Refusal.TheVariants.{LossLevel, ShortImage}
 use Rattle.rle_format.specs.Answer.{Answer, counted, refused, to_answer}
 use Rattle.rle_format.specs.Examples as planes
+use Rattle.pixel_format.specs.declared.PixelFormat.{PixelFormat}
+use Rattle.pixel_format.specs.declared.PixelFormat.TheVariants.{Rgb24}
 use Rattle.bitmap_format.specs.declared.BitmapStreamHeader.{BitmapStreamHeader}
 use Rattle.bitmap_format.specs.declared.ColorPlaneDefinition.{ColorPlaneDefinition}
 use Rattle.bitmap_format.specs.declared.ColorPlaneDefinition.TheVariants.{Argb, AYCoCg}
-use Rattle.bitmap_format.specs.Pixels.{three_bytes}
+use Rattle.bitmap_format.specs.declared.picture.Picture.{Picture}
+use Rattle.bitmap_format.specs.Pixels.{three_bytes, format_to_form, bytes_per_pixel_of}
+use Rattle.bitmap_format.specs.HeaderByte.{header_to_byte_of}
 use Rattle.bitmap_format.specs.Sizes.{min_body_size_of, work_size_of, image_size_of}
-use Rattle.bitmap_format.specs.Picture.{PictureOutcome, check_picture, unpack_picture}
+use Rattle.bitmap_format.specs.Picture.{PictureOutcome, is_loss_level_invalid_of, check_picture, unpack_picture}
+use Rattle.bitmap_format.specs.CheckedPicture.{picture_or_number}
 
 pub data Example : Type 0 where
   -- an example of a plane
@@ -25,6 +31,8 @@ pub data Example : Type 0 where
   checks : BitmapStreamHeader → (width height body work image : ℕ) → Answer → Example
   -- what the code returns, and the same as a number of bytes or of a refusal
   unpack_answer : Result ℕ Refusal → Answer → Example
+  -- what checking a picture returns, and the bytes of a pixel, the header byte and the sides, or the number of a refusal
+  makes : Result Picture Refusal → Result (List ℕ) ℕ → Example
 
 -- n bytes that no call has written
 abbrev pub unwritten : (n : ℕ) → List ℕ
@@ -37,6 +45,11 @@ unpacked header w h body work_length image_length = unpack_picture header w h bo
 abbrev pub image_and_answer : PictureOutcome → planes.After
 image_and_answer o = record { slice = o.image; answer = o.answer }
 
+-- the parts of a picture by numbers, or the number of its refusal
+abbrev pub picture_parts : Result (PixelFormat × BitmapStreamHeader × ℕ × ℕ) ℕ → planes.After
+picture_parts (Ok q) = planes.values (bytes_per_pixel_of (format_to_form q.0) ∷ header_to_byte_of q.1 ∷ q.2 ∷ q.3 ∷ [])
+picture_parts (Err n) = planes.only_answer (refused n)
+
 -- what the definitions compute; work area and image have the lengths that they have afterwards
 abbrev pub computed : Example → List planes.After
 computed (plane e) = planes.computed e
@@ -48,6 +61,7 @@ computed (unpacks header w h body work image a) =
 computed (sizes header w h body work image) = planes.values (min_body_size_of header w h ∷ work_size_of three_bytes header w h ∷ image_size_of three_bytes w h ∷ []) ∷ []
 computed (checks header w h body work image a) = planes.only_answer (check_picture three_bytes header w h body work image) ∷ []
 computed (unpack_answer d a) = planes.only_answer (to_answer d) ∷ []
+computed (makes r parts) = picture_parts (picture_or_number r) ∷ []
 
 -- what is expected
 abbrev pub expected : Example → List planes.After
@@ -57,6 +71,8 @@ expected (unpacks header w h body work image a) = planes.values work ∷ record 
 expected (sizes header w h body work image) = planes.values (body ∷ work ∷ image ∷ []) ∷ []
 expected (checks header w h body work image a) = planes.only_answer a ∷ []
 expected (unpack_answer d a) = planes.only_answer a ∷ []
+expected (makes r (Ok parts)) = planes.values parts ∷ []
+expected (makes r (Err n)) = planes.only_answer (refused n) ∷ []
 
 abbrev pub header : (rle alpha : Bool) → ColorPlaneDefinition → BitmapStreamHeader
 header rle alpha definition = record {
@@ -74,6 +90,14 @@ aycocg rle alpha level = header rle alpha (AYCoCg level false)
 
 abbrev pub subsampled_header : (rle alpha : Bool) → BitmapStreamHeader
 subsampled_header rle alpha = header rle alpha (AYCoCg 1 true)
+
+-- a picture that passes refusals 1 to 3: three by two, RLE with alpha, loss level 7
+pub level_7_valid : is_loss_level_invalid_of (AYCoCg 7 false) ≡ false
+unfolding is_loss_level_invalid_of
+level_7_valid = refl
+
+abbrev pub picture_3_2 : Picture
+picture_3_2 = record { format = Rgb24; header = aycocg true true 7; width = 3; height = 2; allowed = planes.sides_3_2.allowed; level = level_7_valid }
 
 -- those of FORMAT 10, with their numbers. The body of 15 is alpha `FF` if flagged, Y 100, Co 10, Cg 20
 abbrev pub worked_pictures : List Example
@@ -186,6 +210,8 @@ refusals =
     ∷ checks (argb true false) 3 2 6 18 20 (counted 18)
     ∷ unpack_answer (Ok 3) (counted 3)
     ∷ unpack_answer (Err ShortImage) (refused 6)
+    ∷ makes (Ok picture_3_2) (Ok (3 ∷ 0x17 ∷ 3 ∷ 2 ∷ []))
+    ∷ makes (Err LossLevel) (Err 3)
     ∷ []
 
 abbrev pub examples : List Example
