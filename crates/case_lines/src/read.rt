@@ -43,6 +43,14 @@ pub fn next_flag(line: &[u8]) -> Option<(bool, &[u8])>
     Some((flag_of(number)?, rest))
 }
 
+// Reads the number of a layout.
+pub fn next_layout(line: &[u8]) -> Option<(PixelLayout, &[u8])>
+    ensures { IfSome result (λ p. IsRest line.now p.1.now) }
+{
+    let (number, rest) = next_number(line)?;
+    Some((layout_of(number)?, rest))
+}
+
 // Reads an answer: a decimal number, with a minus sign if it is that of a refusal.
 pub fn next_answer(line: &[u8]) -> Option<(Answer, &[u8])>
     ensures { IfSome result (λ p. p.1.now ≡ drop (next_of_answer line.now result) line.now) }
