@@ -4,52 +4,41 @@
 
 mod encode;
 
-use case_lines::file;
-use case_lines::file::BUFFER_SIZE;
-use encode::{ResultKind, SourceKind};
-use std::rt::Files;
+use case_lines::file::replay_file;
+use encode::{CaseKind, ResultKind, SourceKind};
+
+// The four kinds of files.
+const CHANNELS: CaseKind = CaseKind {
+    source: SourceKind::Channels,
+    result: ResultKind::Body,
+};
+
+const BITMAP: CaseKind = CaseKind {
+    source: SourceKind::Pixels,
+    result: ResultKind::Body,
+};
+
+const STREAM_CHANNELS: CaseKind = CaseKind {
+    source: SourceKind::Channels,
+    result: ResultKind::Stream,
+};
+
+const STREAM_BITMAP: CaseKind = CaseKind {
+    source: SourceKind::Pixels,
+    result: ResultKind::Stream,
+};
 
 fn main(rt: HostRuntime) {
-    replay_bodies(&rt, SourceKind::Channels, b"examples-channels.txt");
-    replay_bodies(&rt, SourceKind::Pixels, b"examples-bitmap.txt");
-    replay_streams(&rt, SourceKind::Channels, b"examples-stream-channels.txt");
-    replay_streams(&rt, SourceKind::Pixels, b"examples-stream-bitmap.txt");
-    replay_bodies(&rt, SourceKind::Channels, b"refusals-channels.txt");
-    replay_bodies(&rt, SourceKind::Pixels, b"refusals-bitmap.txt");
-    replay_streams(&rt, SourceKind::Channels, b"refusals-stream-channels.txt");
-    replay_streams(&rt, SourceKind::Pixels, b"refusals-stream-bitmap.txt");
-    replay_bodies(&rt, SourceKind::Channels, b"channels-pack.txt");
-    replay_bodies(&rt, SourceKind::Pixels, b"bitmap-pack.txt");
-    replay_streams(&rt, SourceKind::Channels, b"stream-channels-pack.txt");
-    replay_streams(&rt, SourceKind::Pixels, b"stream-bitmap-pack.txt");
-}
-
-fn replay_bodies(rt: &(impl Files + Print), source: SourceKind, path: &[u8]) {
-    replay(rt, source, ResultKind::Body, path)
-}
-
-fn replay_streams(rt: &(impl Files + Print), source: SourceKind, path: &[u8]) {
-    replay(rt, source, ResultKind::Stream, path)
-}
-
-// Replays the cases of the file at `path`, which are all of one kind.
-fn replay(rt: &(impl Files + Print), source: SourceKind, res: ResultKind, path: &[u8]) {
-    let mut buffer = [0u8; BUFFER_SIZE];
-    let loaded = file::load(rt, path, &mut buffer);
-    if loaded.failed {
-        return;
-    }
-    let size = loaded.size;
-    replay_text(rt, source, res, path, &buffer[0..size]);
-}
-
-// The same for a file that was loaded.
-fn replay_text(rt: &impl Print, source: SourceKind, res: ResultKind, path: &[u8], text: &[u8]) {
-    let mut case = file::first_case(rt, path, text);
-    while case.start < case.end {
-        let start = case.start;
-        let end = case.end;
-        let replayed = encode::replay(source, res, &text[start..end]);
-        case = file::next_case(rt, path, text, case, replayed);
-    }
+    replay_file(&rt, b"examples-channels.txt", &CHANNELS);
+    replay_file(&rt, b"examples-bitmap.txt", &BITMAP);
+    replay_file(&rt, b"examples-stream-channels.txt", &STREAM_CHANNELS);
+    replay_file(&rt, b"examples-stream-bitmap.txt", &STREAM_BITMAP);
+    replay_file(&rt, b"refusals-channels.txt", &CHANNELS);
+    replay_file(&rt, b"refusals-bitmap.txt", &BITMAP);
+    replay_file(&rt, b"refusals-stream-channels.txt", &STREAM_CHANNELS);
+    replay_file(&rt, b"refusals-stream-bitmap.txt", &STREAM_BITMAP);
+    replay_file(&rt, b"channels-pack.txt", &CHANNELS);
+    replay_file(&rt, b"bitmap-pack.txt", &BITMAP);
+    replay_file(&rt, b"stream-channels-pack.txt", &STREAM_CHANNELS);
+    replay_file(&rt, b"stream-bitmap-pack.txt", &STREAM_BITMAP);
 }
