@@ -12,7 +12,7 @@ ghost use Rattle.std.specs.Prelude.{◌≤◌};
 
 use bitmap_format::{BitmapStreamHeader, ColorPlaneDefinition};
 use case_lines::file::Replay;
-use case_lines::guarded::{Comparison, GUARD_SIZE, MAX_SLICE};
+use case_lines::guarded::{ARRAY_SIZE, Comparison, GUARD_SIZE, MAX_SLICE};
 use case_lines::report::{Answer, LineResult};
 use case_lines::{guarded, read, report};
 use pixel_format::PixelFormat;
@@ -83,16 +83,25 @@ fn replay_case(kind: CaseKind, line: &[u8]) -> Option<LineResult> {
     let (case, line) = next_case(kind, line)?;
     let mut source = [0; MAX_SLICE];
     let (count, line) = read::next_bytes(line, &mut source)?;
+    run(case, &source[..count], line)
+}
+
+// Makes the calls with a work area and an image between guard bytes, and compares everything that can be observed with the remaining fields.
+fn run(case: Case, source: &[u8], line: &[u8]) -> Option<LineResult> {
     let mut work = guarded::new_array();
     let mut image = guarded::new_array();
+    let Rooms {
+        work: work_room,
+        image: image_room,
+    } = case.rooms;
     let got = call(
         case,
-        &source[..count],
-        &mut work[GUARD_SIZE..GUARD_SIZE + case.rooms.work],
-        &mut image[GUARD_SIZE..GUARD_SIZE + case.rooms.image],
+        source,
+        &mut work[GUARD_SIZE..GUARD_SIZE + work_room],
+        &mut image[GUARD_SIZE..GUARD_SIZE + image_room],
     );
-    let (work, line) = next_comparison(line, &work, case.rooms.work)?;
-    let (image, line) = next_comparison(line, &image, case.rooms.image)?;
+    let (work, line) = next_comparison(line, &work, work_room)?;
+    let (image, line) = next_comparison(line, &image, image_room)?;
     if !line.is_empty() {
         return None;
     }
@@ -218,7 +227,11 @@ fn decode(case: Case, bytes: &[u8], work: &mut [u8], image: &mut [u8]) -> Result
 }
 
 // Reads a field of `size` bytes, and compares the slice that lies between guard bytes in `array` with it.
-fn next_comparison<'a>(line: &'a [u8], array: &[u8], size: usize) -> Option<(Comparison, &'a [u8])> {
+fn next_comparison<'a>(
+    line: &'a [u8],
+    array: &[u8; ARRAY_SIZE],
+    size: usize,
+) -> Option<(Comparison, &'a [u8])> {
     let mut after = [0; MAX_SLICE];
     let (count, line) = read::next_bytes(line, &mut after)?;
     if count != size {

@@ -98,7 +98,12 @@ fn run(case: Case, source: &[u8], after: &[u8]) -> LineResult
     let dst = &mut array[GUARD_SIZE..GUARD_SIZE + after.len()];
     guarded::prepare(dst);
     let got = make_call(case, source, dst);
-    report::case_result(case.answer, got, true, guarded::compare_slice(&array, after))
+    report::case_result(
+        case.answer,
+        got,
+        true,
+        guarded::compare_slice(&array, after),
+    )
 }
 
 // Makes the call of a case.
