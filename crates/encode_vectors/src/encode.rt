@@ -13,7 +13,7 @@ ghost use Rattle.std.specs.Prelude.{◌≤◌, length};
 
 use bitmap_format::{BitmapStreamHeader, ColorPlaneDefinition, Encoded};
 use case_lines::file::Replay;
-use case_lines::guarded::{GUARD_SIZE, MAX_SLICE};
+use case_lines::guarded::{ARRAY_SIZE, GUARD_SIZE, MAX_SLICE};
 use case_lines::report::{Answer, LineResult};
 use case_lines::{guarded, read, report};
 use pixel_format::PixelLayout;
@@ -82,7 +82,7 @@ impl Replay for CaseKind {
     }
 }
 
-// Replays the case of a line, or returns None for a malformed line.
+// Replays the case of a line, or returns None for a malformed line. The source fields have room for ARRAY_SIZE bytes each, the destination for MAX_SLICE.
 fn replay_case(kind: CaseKind, line: &[u8]) -> Option<LineResult> {
     let (case, line) = next_case(kind, line)?;
     match case.layout {
@@ -144,10 +144,10 @@ fn next_header(kind: ResultKind, line: &[u8]) -> Option<(Option<ExpectedHeader>,
 
 // Replays a case of channels. A has bytes only if alpha is packed.
 fn replay_channels(case: Case, line: &[u8]) -> Option<LineResult> {
-    let mut r = [0; MAX_SLICE];
-    let mut g = [0; MAX_SLICE];
-    let mut b = [0; MAX_SLICE];
-    let mut a = [0; MAX_SLICE];
+    let mut r = [0; ARRAY_SIZE];
+    let mut g = [0; ARRAY_SIZE];
+    let mut b = [0; ARRAY_SIZE];
+    let mut a = [0; ARRAY_SIZE];
     let (r_count, line) = read::next_bytes(line, &mut r)?;
     let (g_count, line) = read::next_bytes(line, &mut g)?;
     let (b_count, line) = read::next_bytes(line, &mut b)?;
@@ -166,7 +166,7 @@ fn replay_channels(case: Case, line: &[u8]) -> Option<LineResult> {
 
 // Replays a case of pixels.
 fn replay_pixels(case: Case, layout: PixelLayout, line: &[u8]) -> Option<LineResult> {
-    let mut pixels = [0; MAX_SLICE];
+    let mut pixels = [0; ARRAY_SIZE];
     let (count, line) = read::next_bytes(line, &mut pixels)?;
     replay_source(case, Source::Pixels(layout, &pixels[..count]), line)
 }
