@@ -1,5 +1,5 @@
 -- What a caller of ValidSides::new learns from its answer.
-use mathlib.Core.Path.{◌≡◌, ap}
+use mathlib.Core.Path.{◌≡◌, refl, ap}
 use mathlib.Core.Bool.{Bool, true, false, ◌||◌}
 use Prim.Native.Nat.{ℕ}
 use lib.Dec.{ltb, eqb}
@@ -32,3 +32,13 @@ module _ (w h : ℕ) where
       go true b e = let z : 1 ≡ number r = cc in ap refuse z
       go false true e = let z : 2 ≡ number r = cc in ap refuse z
       go false false e = absurd cc
+
+  -- and sides that pass, by none
+  pub sides_pass {ℓ} : (s : ValidSides) → sides_or_number (Ok s) ≡ check_sides_of (λ (n : ℕ). Err n) w h (Ok (w, h)) → {A : Type ℓ} (refuse : ℕ → A) (inside : A) → check_sides_of refuse w h inside ≡ inside
+  unfolding check_sides_of
+  sides_pass s e refuse inside = go (eqb w 0 || eqb h 0) (ltb 8192 w || ltb 8192 h) e
+    where
+      go : (a b : Bool) → ◌≡◌ {A = Result (ℕ × ℕ) ℕ} (Ok (s.width, s.height)) (choose a (Err 1) (choose b (Err 2) (Ok (w, h)))) → choose a (refuse 1) (choose b (refuse 2) inside) ≡ inside
+      go true b e = absurd cc
+      go false true e = absurd cc
+      go false false e = refl

@@ -1,31 +1,39 @@
--- `encode_bitmap`: an empty destination, or the byte put before the body (proofs/FirstByte.antt).
-use Rattle.std.proofs.Common.{false, [], ◌∷◌, ap, ◌∙◌}
-use Rattle.rle_format.specs.Answer.{packed_to_answer}
+-- `encode_bitmap`: an empty destination and a refusal keep the first byte, a packed body gets its header byte (proofs/FirstByte.antt).
+use Rattle.std.proofs.Common.{false, [], ◌∷◌, Ok, Err, refl, ap, ◌∙◌}
+use Rattle.std.proofs.lemmas.Result.{err_from_is_err_and}
+use Rattle.rle_format.specs.Answer.{counted}
 use Rattle.pixel_format.specs.declared.Channel.TheVariants.{R, G, B}
 use Rattle.pixel_format.specs.Channel.{channel_offsets, channel}
-use Rattle.bitmap_format.specs.PackPicture.{pixel_planes, encoded_to_answer}
-use Rattle.bitmap_format.specs.Stream.{StreamOutcome}
-use Rattle.bitmap_stream.proofs.FirstByte.{picture_written, picture_fits, picture_empty}
+use Rattle.bitmap_stream.proofs.FirstByte.{stream_refused, stream_fits, stream_written}
 use Rattle.bitmap_stream.proofs.encode_bitmap.Goals as goal
 
-pub returns-then-dst-eq0 : goal.returns-then-dst-eq0
-returns-then-dst-eq0 c =
+pub returns-in_err-body : goal.returns-in_err-body
+returns-in_err-body c =
     let a = c.args in
+    let start = c.body_start-start in
     let p = c.encode_bitmap_body in
-    let w = picture_empty false a.rle a.width a.height (channel (channel_offsets a.layout) R a.src.now) (channel (channel_offsets a.layout) G a.src.now ∷ channel (channel_offsets a.layout) B a.src.now ∷ []) a.dst.now p.new.dst (encoded_to_answer p.result)
-    (packed_to_answer c.without_header.result) c.if-dst-eq0.true p.auto.dst p.ensures.answer c.without_header.ensures in
-    record { answer = w.0; slice = w.1 }
+    let why = c.in_err-body in
+    let w = stream_refused false a.rle a.width a.height (channel (channel_offsets a.layout) R a.src.now) (channel (channel_offsets a.layout) G a.src.now ∷ channel (channel_offsets a.layout) B a.src.now ∷ []) a.dst.now p.new.dst start.result start.ensures
+    (Err why.field-0.0) p.auto.dst why.ensures.answer why.ensures.slice why.field-0.0 refl in
+    let q = err_from_is_err_and c.from_residual.result c.from_residual.ensures.1 in
+    record { answer = rw (q.1, q.2) w.0; slice = w.1 }
 
 pub write_header_byte-requires : goal.write_header_byte-requires
 write_header_byte-requires c =
     let a = c.args in
-    let p = c.encode_bitmap_body-answer in
-    picture_fits false a.rle a.width a.height (pixel_planes (channel_offsets a.layout) a.src.now) a.dst.now p.new.dst p.result c.if-dst-eq0.false p.auto.dst p.ensures.answer
+    let start = c.body_start-start in
+    let p = c.encode_bitmap_body in
+    let packed = c.in_ok-body in
+    stream_fits false a.rle a.width a.height (channel (channel_offsets a.layout) R a.src.now) (channel (channel_offsets a.layout) G a.src.now ∷ channel (channel_offsets a.layout) B a.src.now ∷ []) a.dst.now p.new.dst start.result start.ensures
+    (Ok packed.body) p.auto.dst packed.ensures.answer packed.ensures.slice packed.body refl
 
 pub returns : goal.returns
 returns c =
     let a = c.args in
-    let p = c.encode_bitmap_body-answer in
+    let start = c.body_start-start in
+    let p = c.encode_bitmap_body in
+    let packed = c.in_ok-body in
     let f = c.write_header_byte in
-    let is = picture_written false a.rle a.width a.height (pixel_planes (channel_offsets a.layout) a.src.now) a.dst.now p.new.dst (encoded_to_answer p.result) c.if-dst-eq0.false p.ensures.answer p.ensures.slice in
-    record { answer = f.ensures.answer ∙ ap (λ (x : StreamOutcome). x.answer) is; slice = f.ensures.slice ∙ ap (λ (x : StreamOutcome). x.slice) is }
+    let w = stream_written false a.rle a.width a.height (channel (channel_offsets a.layout) R a.src.now) (channel (channel_offsets a.layout) G a.src.now ∷ channel (channel_offsets a.layout) B a.src.now ∷ []) a.dst.now p.new.dst start.result start.ensures
+    (Ok packed.body) p.auto.dst packed.ensures.answer packed.ensures.slice packed.body refl in
+    record { answer = ap counted f.ensures.count ∙ w.0; slice = f.ensures.slice ∙ w.1 }

@@ -2,8 +2,8 @@
 use Rattle.std.proofs.Common.{true, length, sym, ap, ◌∙◌, arith}
 use Rattle.rle_format.proofs.Outcome.{stop_writes_nothing}
 use Rattle.rdp6.specs.Layout.{c_pack_pixels, unknown_layout}
-use Rattle.rdp6.proofs.Layouts.{unknown_fits}
-use Rattle.rdp6.proofs.Numbers.{read_back, answer_without_header, encoded_count_max}
+use Rattle.rle_format.proofs.Answer.{number_max}
+use Rattle.rdp6.proofs.Numbers.{refusal_fits, read_back, answer_without_header, encoded_count_max}
 use Rattle.rdp6.proofs.rdp6_encode_bitmap_alpha.Goals as goal
 
 pub returns-in_default-clause-answer : goal.returns-in_default-clause-answer
@@ -11,7 +11,7 @@ returns-in_default-clause-answer c =
     let a = c.args in
     let is = sym c.layout_of.ensures ∙ c.in_default.is in
     let left = stop_writes_nothing a.dst.now _ (unknown_layout a.width a.height) (ap (c_pack_pixels true a.rle a.width a.height (length a.dst.now) a.src.now) is) in
-    read_back c.layout_refusal.result _ _ (unknown_fits a.width a.height) c.layout_refusal.ensures left.0
+    read_back c.refusal_number.result _ _ (refusal_fits _ (number_max c.layout_refusal.result)) c.refusal_number.ensures (c.layout_refusal.ensures ∙ left.0)
 
 pub returns-in_default-clause-slice : goal.returns-in_default-clause-slice
 returns-in_default-clause-slice c =
