@@ -6,14 +6,12 @@ ghost use Rattle.rle_decoder.specs.Appended.{Appended};
 use crate::row_so_far::{RowSoFar, Segment};
 
 // Copies 16 bytes of src, from index `from` on, to codes from index `at` on. The compiler does not know that the slices do not overlap, but it
-// knows it of the local array; by way of that the copy is one load and one store. rle_encoder has such a function too: a public one for both
-// would have to test the two lengths, once for each segment.
+// knows it of the local array; by way of that the copy is one load and one store.
 pub(crate) fn copy_16(src: &[u8], from: usize, codes: &mut [u8], at: usize)
     requires { (from + 16 ≤ length src.now) × (at + 16 ≤ length codes.old) }
     ensures { codes.new ≡ write_at codes.old at (take 16 (drop from src.now)) }
 {
-    let mut sixteen = [0u8; 16];
-    sixteen.copy_from_slice(&src[from..from + 16]);
+    let sixteen: [u8; 16] = *src[from..from + 16].as_array().unwrap();
     codes[at..at + 16].copy_from_slice(&sixteen);
 }
 

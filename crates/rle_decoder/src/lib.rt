@@ -18,8 +18,8 @@ use delta::restore_row;
 use rle_format::{MAX_SIDE, Refusal, ValidSides};
 use row::decode_scanline;
 
-// An array of codes is longer than a row: 48 bytes are written for a segment that begins at the row's last value. Three contracts say so: a struct
-// of the array and the width, lent to be written, would need a clause in each that the width stays.
+// An array of codes is longer than a row: 48 bytes are written for a segment that begins at the row's last value. Three contracts say so. A struct of
+// the array and the width would say it once, but, lent to be written, needs a clause that its array keeps its length, in each of its methods.
 const MARGIN: usize = 47;
 
 // Planes of at most this width have a shorter array. Each call fills its array with zeros: to fill the long one takes about as long as to unpack
