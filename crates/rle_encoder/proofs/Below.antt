@@ -1,9 +1,8 @@
 -- The coded values of a row, from the slice that has the samples of its plane.
-use Rattle.std.proofs.Common.{◌≡◌, ℕ, zero, suc, ◌+◌, ◌-◌, ◌*◌, List, take, drop, sym, refl, ap, ◌∙◌, suc-mul, arith}
+use Rattle.std.proofs.Common.{◌≡◌, ℕ, zero, suc, ◌+◌, ◌-◌, ◌*◌, List, take, drop, sym, refl, ap, arith}
 use Rattle.pixel_format.specs.declared.Channel.{Channel}
 use Rattle.pixel_format.specs.declared.Layout.{Layout}
-use Rattle.pixel_format.specs.declared.Layout.TheVariants.{Planar, Pixels}
-use Rattle.pixel_format.specs.declared.PixelLayout.{PixelLayout}
+use Rattle.pixel_format.specs.declared.Layout.TheVariants.{Planar}
 use Rattle.pixel_format.specs.Channel.{samples_of}
 use Rattle.rle_format.specs.Delta.{delta_code, zip_with}
 use Rattle.rle_format.specs.Pack.{row_at, codes_at}
@@ -27,16 +26,8 @@ module _ (width : ℕ) (samples : List ℕ) where
       let m : suc r * width + width - suc r * width ≡ width = omega arith in
       rw (z, n, m) refl
 
--- the row above ends where the row begins
-pub above_end : (r width : ℕ) → (r ≡ 0 → ⊥) → (r - 1) * width + width ≡ r * width
-above_end zero width h = absurd (h refl)
-above_end (suc r) width h = let z : suc r - 1 ≡ r = omega arith in ap (λ (k : ℕ). k * width + width) z ∙ sym (suc-mul r width)
-
 -- ---- the two kinds of layout
 
 module _ (l : Layout) (c : Channel) (s : List ℕ) where
   pub planar_are : l ≡ Planar → s ≡ samples_of l c s
   planar_are e = ap (λ (k : Layout). samples_of k c s) (sym e)
-
-pub pixels_not_planar : (l : Layout) (p : PixelLayout) → l ≡ Pixels p → l ≡ Planar → ⊥
-pixels_not_planar l p e f = let z : ◌≡◌ {A = ℕ} 0 1 = cc in absurd (omega arith)

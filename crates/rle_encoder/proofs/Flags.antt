@@ -1,5 +1,5 @@
--- What a word of eight flags says of them, and four words at a time; the flags of a row, made one by one.
-use Rattle.std.proofs.Common.{◌≡◌, ℕ, zero, suc, ◌+◌, ◌-◌, ◌/◌, ◌<◌, ◌≤◌, Bool, true, false, ◌&&◌, eqb, List, ◌++◌, length, get_or, set, take, replicate, length-take-le, get_or-take, sym, refl, ap, ◌∙◌, ⊎_elim, arith, get_or-set_other, get_or-set_same, eq-eqb, ne_eqb}
+-- What a word of eight flags says of them, and four words at a time; the flags of a row and those behind it.
+use Rattle.std.proofs.Common.{◌≡◌, ℕ, zero, suc, ◌+◌, ◌-◌, ◌/◌, ◌<◌, ◌≤◌, Bool, true, false, ◌&&◌, eqb, List, ◌++◌, length, get_or, take, replicate, length-take-le, get_or-take, sym, refl, ap, ◌∙◌, ⊎_elim, arith, eq-eqb, ne_eqb}
 use Rattle.std.proofs.lemmas.List.{get_or_append_left, get_or-append_right, get_or-replicate, length-replicate}
 use lib.Count.{count_trailing_zeros}
 use Rattle.rle_format.specs.Choice.{choose}
@@ -8,9 +8,6 @@ use Rattle.rle_encoder.specs.RunFlags.{four_equal_of, flag_at, Flagged, AllAre, 
 use Rattle.rle_encoder.proofs.Words.{First, lowest_first, none_set, others_of, length_others, others_at, others_bits, others_word, word_at_most, bits as bits_of}
 
 -- ---- flags that are all the same
-
-pub all_none : (v : ℕ) (flags : List ℕ) (from : ℕ) → AllAre v flags from from
-all_none v flags from j h l = absurd (omega arith)
 
 -- up to an index, and from there on
 pub all_both : (v : ℕ) (flags : List ℕ) (from mid to : ℕ) → AllAre v flags from mid → AllAre v flags mid to → AllAre v flags from to
@@ -98,15 +95,6 @@ module _ (flags : List ℕ) (at : ℕ) (known : Bits flags at (at + 32)) (v : �
       all_both v flags at (at + 8) (at + 32) (word_none flags at (λ j f l. known j (omega arith) (omega arith)) v a small ea none.0)
       (all_both v flags (at + 8) (at + 16) (at + 32) (part 8 (at + 16) (omega arith) (omega arith) b eb none.1)
       (all_both v flags (at + 16) (at + 24) (at + 32) (part 16 (at + 24) (omega arith) (omega arith) c ec none.2) (part 24 (at + 32) (omega arith) (omega arith) d ed none.3)))
-
--- ---- the flags of a row, one after the other
-
-pub flagged_more : (codes flags : List ℕ) (i v : ℕ) → Flagged codes flags 0 i → i < length flags → v ≡ flag_at codes i → Flagged codes (set flags i v) 0 (i + 1)
-flagged_more codes flags i v known l is j f h =
-    ⊎_elim
-    (λ (k : i ≤ j). let e : j ≡ i = omega arith in rw e (get_or-set_same flags i v 0 l ∙ is))
-    (λ (k : j < i). get_or-set_other flags i j v 0 (λ (e : j ≡ i). absurd (omega arith)) ∙ known j f k)
-    (le_or_gt i j)
 
 -- ---- what a flag says
 

@@ -1,8 +1,8 @@
 -- A row packed from run to run: the segments that are left, and the flags that are not overwritten yet.
-use Rattle.std.proofs.Common.{◌≡◌, ℕ, ◌+◌, ◌-◌, ◌*◌, ◌/◌, ◌<◌, ◌≤◌, min, List, [], ◌++◌, length, get_or, take, drop, sym, ap, ◌∙◌, arith, length-drop, drop_of_length-le, length-take-le, get_or-drop, take_all, drop_at}
+use Rattle.std.proofs.Common.{◌≡◌, ℕ, ◌+◌, ◌-◌, ◌*◌, ◌/◌, ◌<◌, ◌≤◌, min, List, [], ◌++◌, length, get_or, take, drop, sym, ap, ◌∙◌, arith, length-drop, drop_of_length-le, length-take-le, get_or-drop, take_all}
 use Rattle.rle_format.specs.Segment.{segments_bytes}
 use Rattle.rle_format.specs.Pack.{split_segments, row_segments}
-use Rattle.rle_format.proofs.Slice.{suffix, suffix_drop, replace_suffix, replace_suffix-append}
+use Rattle.rle_format.proofs.Slice.{suffix, suffix_drop}
 use Rattle.rle_format.proofs.PackingSize.{run_size_max, row_size_max}
 use Rattle.rle_encoder.specs.RunFlags.{Flagged, Bits, AllAre}
 use Rattle.rle_encoder.specs.Put.{SameFrom}
@@ -77,10 +77,3 @@ module _ (packed : List ℕ) (start from : ℕ) (e : start ≡ from) where
 
   pub bits_there : (i to : ℕ) → Bits (drop from packed) i to → Bits (suffix packed start) i to
   bits_there i to known j f h = omega (arith, ap (λ (l : List ℕ). get_or l j 0) flags_there, known j f h)
-
--- the flags after they were written
-pub flags_written : (d ys : List ℕ) (start from : ℕ) → start ≡ from → start ≤ length d → drop from (replace_suffix d start ys) ≡ ys
-flags_written d ys start from e h =
-    ap (λ (k : ℕ). drop k (replace_suffix d start ys)) (sym e)
-    ∙ ap (drop start) (replace_suffix-append d ys start)
-    ∙ drop_at (take start d) ys start (length-take-le start d h)

@@ -1,14 +1,11 @@
 -- A slice whose values are replaced from the first on, one in each iteration of a loop.
-use Rattle.std.proofs.Common.{◌≡◌, ℕ, suc, ◌+◌, ◌<◌, List, [], ◌∷◌, ◌++◌, length, get_or, take, drop, set, sym, refl, ap, ◌∙◌, add-zero, add-one, arith, length-set, get_or-drop, take_all, take-suc, drop-drop, take-suc-set, drop-set-lt}
+use Rattle.std.proofs.Common.{◌≡◌, ℕ, suc, ◌+◌, ◌<◌, List, [], ◌∷◌, ◌++◌, length, get_or, take, drop, set, sym, ap, ◌∙◌, add-zero, add-one, arith, length-set, get_or-drop, take_all, take-suc, drop-drop, take-suc-set, drop-set-lt}
 
 -- the first i values of `now` are those of `new`, and the others still those of `old`
 pub record Replaced (old new now : List ℕ) (i : ℕ) : Type 0 where
   pub len : length now ≡ length old
   pub first : take i now ≡ take i new
   pub rest : drop i now ≡ drop i old
-
-pub replaced_start : (old new : List ℕ) → Replaced old new old 0
-replaced_start old new = record { len = refl; first = refl; rest = refl }
 
 module _ {old new now : List ℕ} {i : ℕ} (h : Replaced old new now i) where
   -- the value that is to be replaced next

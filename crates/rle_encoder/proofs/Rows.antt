@@ -1,11 +1,10 @@
 -- The rows of a plane, as the packer's outer loop goes through them.
-use Rattle.std.proofs.Common.{Result, ◌≡◌, ℕ, zero, suc, ◌+◌, ◌-◌, ◌*◌, ◌<◌, ◌≤◌, List, [], ◌++◌, length, take, drop, sym, refl, ap, ◌∙◌, append_assoc, append-nil, mul-le-mul_right, mul_comm, arith, length-drop, length-take-le, take_at, take_all}
+use Rattle.std.proofs.Common.{Result, ◌≡◌, ℕ, zero, suc, ◌+◌, ◌-◌, ◌*◌, ◌<◌, ◌≤◌, List, [], ◌++◌, length, take, drop, sym, refl, ap, ◌∙◌, append_assoc, append-nil, arith, length-drop, length-take-le, take_at, take_all}
 use Rattle.rle_format.specs.declared.Refusal.{Refusal}
 use Rattle.rle_format.specs.Slice.{overwrite}
 use Rattle.rle_format.specs.Delta.{delta_code, zip_with}
 use Rattle.rle_format.specs.Segment.{Segment}
 use Rattle.rle_format.specs.Pack.{row_segments, row_at, codes_at, plane_segments}
-use Rattle.rle_format.proofs.Delta.{length_zip_with}
 use Rattle.rle_format.proofs.Slice.{overwrite_all}
 use Rattle.pixel_format.specs.declared.Layout.{Layout}
 use Rattle.rle_encoder.specs.CodeRow.{code_row_of, HasRowAbove, KeepsRowAbove}
@@ -51,9 +50,6 @@ module _ (width : ℕ) (samples : List ℕ) where
 
 -- ---- a row, read and coded
 
-pub row_within : (r width height : ℕ) → r < height → r * width + width ≤ width * height
-row_within r width height h = let e : suc r * width ≤ height * width = mul-le-mul_right width h in omega (arith, mul_comm width height)
-
 length_row_at : (width : ℕ) (samples : List ℕ) (r : ℕ) → r * width + width ≤ length samples → length (row_at width samples r) ≡ width
 unfolding row_at
 length_row_at width samples r h = length-take-le width (drop (r * width) samples) (omega (arith, length-drop (r * width) samples))
@@ -65,18 +61,6 @@ unfolding row_at
 read_row_lem width samples r d got e h is =
     let row : List ℕ = row_at width samples r in
     is ∙ ap (λ (n : ℕ). overwrite d (take n (drop (r * width) samples))) e ∙ overwrite_all d row (omega (arith, length_row_at width samples r h))
-
-pub code_row_first : (r : ℕ) (above row : List ℕ) → r ≡ 0 → row ≡ code_row_of r above row
-code_row_first zero above row e = refl
-code_row_first (suc r) above row e = absurd (omega arith)
-
-pub code_row_later : (r : ℕ) (above row : List ℕ) → (r ≡ 0 → ⊥) → zip_with delta_code above row ≡ code_row_of r above row
-code_row_later zero above row e = absurd (e refl)
-code_row_later (suc r) above row e = refl
-
-length-code_row : (r : ℕ) (above row : List ℕ) → length above ≡ length row → length (code_row_of r above row) ≡ length row
-length-code_row zero above row e = refl
-length-code_row (suc r) above row e = length_zip_with delta_code above row e
 
 -- where an array has the samples of the row above, a row's coded values are those of the plane's row
 code_row-codes_at : (width : ℕ) (samples : List ℕ) (r : ℕ) (above : List ℕ) → HasRowAbove width samples r above

@@ -1,4 +1,4 @@
--- A word of flags. Its trailing zeros tell the first flag that is set; those of its complement, the first that is clear.
+-- A word of flags. The trailing zeros of the word that has a 1 for each flag that is not v tell the first of these.
 use Rattle.std.proofs.Common.{◌≡◌, ℕ, zero, suc, ◌+◌, ◌-◌, ◌*◌, ◌/◌, ◌%◌, ◌<◌, ◌≤◌, List, [], ◌∷◌, length, get_or, take, drop, replicate, get_or-take, get_or-drop, w64, refl, ap, ◌∙◌, arith}
 use lib.Count.{count_trailing_zeros}
 use Rattle.std.specs.Int.{from_le_bytes}

@@ -37,8 +37,8 @@ impl RowPacker<'_> {
         self.width / 15 + 16
     }
 
-    // Writes the segments of the row to the start of the array, from one run to the next. A run is a value with 3 or more repeats; the values
-    // before it are raw.
+    // Writes the segments of the row to the start of the array. The loop is a `while`, since it goes from one run to the next: a run is a value
+    // with 3 or more repeats, and the values before it are raw.
     fn put_row(&mut self) -> usize
         requires { Flagged self.old.codes.now (drop (self.old.width / 15 + 16) self.old.packed.now) 0 self.old.width × Bits (drop (self.old.width / 15 + 16) self.old.packed.now) 0 (self.old.width + 8) }
         ensures { Put (row_segments (take self.old.width self.old.codes.now)) self.old.packed.now self.new.packed.now 0 result }

@@ -1,5 +1,6 @@
 // Where the runs of a row begin and end. A flag, one byte, says of each coded value whether it and the next three are equal. The search looks
-// at eight flags in one word, and skips 32 by the sum of four words.
+// at eight flags in one word, and skips 32 by the sum of four words. Its loops stay `while`: they go on by 8 and by 32 flags, and from where the
+// other stopped.
 ghost use Rattle.std.specs.Prelude.{◌≡◌, ℕ, ◌+◌, ◌-◌, ◌<◌, ◌≤◌, length, slice_index};
 ghost use Rattle.rle_encoder.specs.RunFlags.{four_equal_of, Flagged, Bits, AllAre, flag_word, OthersWord};
 

@@ -6,10 +6,12 @@ use Prim.Native.Nat.{ℕ, zero, suc, ◌+◌, ◌-◌, ◌≤◌, ◌<◌, min}
 use native.Mathlib.Omega.{arith}
 use lib.ListN.{length, get_or, take, drop, replicate, length-drop, length-replicate}
 use lib.Seq.{drop-drop, take_all, get_or-drop}
-use Rattle.rle_format.specs.Segment.{last_or}
+use Rattle.std.specs.Prelude.{Ok}
+use Rattle.rle_format.specs.Segment.{Segment, last_or}
 use Rattle.rle_format.specs.Pack.{literal, repeat, long_run, split_segments}
 use Rattle.rle_format.proofs.Cases.{le_or_gt}
 use Rattle.rle_format.proofs.Segment.{last_or_take}
+use Rattle.rle_format.proofs.WriteLoop.{WriteInvariant, Wrote, write_next}
 use Rattle.rle_format.proofs.SegmentSteps.{long_run_step, long_run_1_to_3, long_run_4_to_15, split_segments_short, split_segments_step, split_segments_last}
 
 -- ---- `encode_long_sequence`
@@ -71,3 +73,12 @@ module _ (raw : List ℕ) (run start : ℕ) where
   split_last capped h k e =
       rw (take_all (length raw - start) (drop start raw) (omega (arith, length_unwritten)), ← last_unwritten h, e)
       (split_segments_last (drop start raw) run (omega (arith, length_unwritten)))
+
+  -- these were written, and the rest of the run is left
+  pub run_left : {whole : List Segment} {d now : List ℕ} {at to : ℕ} → WriteInvariant whole (split_segments (drop start raw) run) d now at to
+      → (capped : ℕ) → start < length raw → length raw - start ≤ 15 → capped ≡ min run 15
+      → (then : List ℕ) (next : ℕ) → Wrote (literal (take (length raw - start) (drop start raw)) capped ∷ []) now then to (Ok next)
+      → WriteInvariant whole (long_run (get_or raw (length raw - 1) 0) (run - 15)) d then at next
+  run_left head capped h k e then next wrote =
+      write_next head (literal (take (length raw - start) (drop start raw)) capped ∷ []) (long_run (get_or raw (length raw - 1) 0) (run - 15)) then (Ok next) next
+      (split_last capped h k e) wrote refl

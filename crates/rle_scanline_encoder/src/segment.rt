@@ -1,6 +1,8 @@
 // Writing raw bytes and a run as segments (FORMAT 5.2, 5.3). Each function with a destination writes into it from index `at` on, only complete
 // segments, and returns the index behind the last, or refusal 12 at the first that does not fit. rle_encoder, which writes segments where there
 // is room, divides a run by the same functions.
+// The destination and the index stay two parameters: `answer_at` and `Wrote` of rle_format take the index behind as the result of a call.
+// The loops stay `while`: each turn is a segment, and the last raw bytes go with the run, so no iterator over equal parts ends where they do.
 ghost use Rattle.std.specs.Prelude.{◌≡◌, [], ◌∷◌, ◌≤◌, ◌<◌, min, length};
 ghost use Rattle.rle_format.specs.Answer.{to_answer};
 ghost use Rattle.rle_format.specs.Pack.{literal, repeat, split_segments, long_run};

@@ -4,7 +4,7 @@ use Rattle.std.proofs.lemmas.Result.{err_from_is_err_and}
 use Rattle.rle_format.specs.Pack.{literal, repeat, split_segments, long_run}
 use Rattle.rle_format.proofs.SegmentSteps.{long_run_0}
 use Rattle.rle_format.proofs.WriteLoop.{write_same_rest, write_next, write_stop, write_last, write_end}
-use Rattle.rle_scanline_encoder.proofs.Steps.{long_run_part, long_run_rest, split_step, split_last}
+use Rattle.rle_scanline_encoder.proofs.Steps.{long_run_part, long_run_rest, split_step, split_last, run_left}
 use Rattle.rle_scanline_encoder.proofs.segment.+encode_long_sequence_encode_segment.Goals as goal
 
 -- ---- `encode_long_sequence`
@@ -84,34 +84,23 @@ pub encode_segment-returns-then-run-le15 : goal.encode_segment-returns-then-run-
 encode_segment-returns-then-run-le15 t c =
     let l = c.loop-start in
     let raw = c.args.raw.now in
-    let capped = c.short_run_part in
-    let put = c.write_literal-2 in
-    let rest = write_next l.invariant.1 (literal (take (length raw - l.start) (drop l.start raw)) capped.result ∷ []) (long_run (get_or raw (length raw - 1) 0) (c.args.run - 15))
-    put.new.dst (Ok c.in_ok-next.next) c.in_ok-next.next (split_last raw c.args.run l.start capped.result l.invariant.0 (omega arith) capped.ensures)
-    (c.in_ok-next.ensures.answer, c.in_ok-next.ensures.slice) refl in
+    let next = c.in_ok-next in
+    let rest = run_left raw c.args.run l.start l.invariant.1 c.short_run_part.result l.invariant.0 (omega arith) c.short_run_part.ensures c.write_literal-2.new.dst next.next (next.ensures.answer, next.ensures.slice) in
     let w = write_end rest (long_run_0 (get_or raw (length raw - 1) 0) (c.args.run - 15) (omega arith)) in
     record { answer = w.0; slice = w.1 }
 
 pub encode_segment-encode_long_sequence-requires : goal.encode_segment-encode_long_sequence-requires
 encode_segment-encode_long_sequence-requires t c =
     let l = c.loop-start in
-    let raw = c.args.raw.now in
-    let capped = c.short_run_part in
-    let put = c.write_literal-2 in
-    let rest = write_next l.invariant.1 (literal (take (length raw - l.start) (drop l.start raw)) capped.result ∷ []) (long_run (get_or raw (length raw - 1) 0) (c.args.run - 15))
-    put.new.dst (Ok c.in_ok-next.next) c.in_ok-next.next (split_last raw c.args.run l.start capped.result l.invariant.0 (omega arith) capped.ensures)
-    (c.in_ok-next.ensures.answer, c.in_ok-next.ensures.slice) refl in
+    let next = c.in_ok-next in
+    let rest = run_left c.args.raw.now c.args.run l.start l.invariant.1 c.short_run_part.result l.invariant.0 (omega arith) c.short_run_part.ensures c.write_literal-2.new.dst next.next (next.ensures.answer, next.ensures.slice) in
     (omega arith, rest.within)
 
 pub encode_segment-returns : goal.encode_segment-returns
 encode_segment-returns t c =
     let l = c.loop-start in
-    let raw = c.args.raw.now in
-    let capped = c.short_run_part in
-    let put = c.write_literal-2 in
-    let rest = write_next l.invariant.1 (literal (take (length raw - l.start) (drop l.start raw)) capped.result ∷ []) (long_run (get_or raw (length raw - 1) 0) (c.args.run - 15))
-    put.new.dst (Ok c.in_ok-next.next) c.in_ok-next.next (split_last raw c.args.run l.start capped.result l.invariant.0 (omega arith) capped.ensures)
-    (c.in_ok-next.ensures.answer, c.in_ok-next.ensures.slice) refl in
+    let next = c.in_ok-next in
+    let rest = run_left c.args.raw.now c.args.run l.start l.invariant.1 c.short_run_part.result l.invariant.0 (omega arith) c.short_run_part.ensures c.write_literal-2.new.dst next.next (next.ensures.answer, next.ensures.slice) in
     let call = c.encode_long_sequence in
     let w = write_last rest call.new.dst call.result (call.ensures.answer, call.ensures.slice) in
     record { answer = w.0; slice = w.1 }
