@@ -33,7 +33,8 @@ const WIDE_CODES: usize = MAX_SIDE + 16;
 const WIDE_PACKED: usize = MAX_SIDE + 576;
 
 // Packs the rows of a channel, the first row first. The last three slices are lent to work in. They have the samples of the row above, if the
-// channel is in pixels; the coded values of a row, and 15 bytes that a copy of 16 may read; and the row's segments and flags.
+// channel is in pixels; the coded values of a row, and 15 bytes that a copy of 16 may read; and the row's segments and flags. They stay three
+// parameters: each call below takes others of them, and a struct of all would have to say in each contract which of its slices stay.
 fn encode_rows(
     samples: Samples,
     sides: ValidSides,

@@ -2,7 +2,8 @@
 // segments, and returns the index behind the last, or refusal 12 at the first that does not fit. rle_encoder, which writes segments where there
 // is room, divides a run by the same functions.
 // The destination and the index stay two parameters: `answer_at` and `Wrote` of rle_format take the index behind as the result of a call.
-// The loops stay `while`: each turn is a segment, and the last raw bytes go with the run, so no iterator over equal parts ends where they do.
+// The loops stay `while`, since each turn is a segment: an iterator over parts of 15 raw bytes would first need the last 1 to 15 cut off, which go
+// with the run, by a division at each call.
 ghost use Rattle.std.specs.Prelude.{◌≡◌, [], ◌∷◌, ◌≤◌, ◌<◌, min, length};
 ghost use Rattle.rle_format.specs.Answer.{to_answer};
 ghost use Rattle.rle_format.specs.Pack.{literal, repeat, split_segments, long_run};
