@@ -14,7 +14,7 @@ use Rattle.rle_format.specs.Sides.{check_sides_of, AllowedSides}
 use Rattle.rle_format.proofs.Sides.{allowed_sides, check_sides_passes}
 use Rattle.rle_format.proofs.Slice.{suffix, suffix_drop}
 use Rattle.pixel_format.specs.declared.PixelFormat.{PixelFormat}
-use Rattle.pixel_format.specs.declared.PixelFormat.TheVariants.{Rgb24, FourBytes}
+use Rattle.pixel_format.specs.declared.PixelFormat.TheVariants.{FourBytes}
 use Rattle.pixel_format.specs.declared.PixelLayout.{PixelLayout}
 use Rattle.bitmap_format.specs.declared.BitmapStreamHeader.{BitmapStreamHeader}
 use Rattle.bitmap_format.specs.Planes.{alpha_planes_at, alpha_planes, planes_with_alpha_at}
@@ -45,9 +45,6 @@ checked_sides form header w h body work image n e =
     allowed_sides w h (sides_passed w h n (first_refusal_of (picture_checks form header w h body work image) (counted (image_size_of form w h))) e).0
 
 -- ---- alpha_offset
-
-pub offset_three : (format : PixelFormat) (header : BitmapStreamHeader) (w h : ℕ) → format ≡ Rgb24 → 0 ≡ alpha_offset_of (format_to_form format) header w h
-offset_three format header w h e = ap (λ (f : PixelFormat). alpha_offset_of (format_to_form f) header w h) (sym e)
 
 pub offset_four : (format : PixelFormat) (layout : PixelLayout) (header : BitmapStreamHeader) (w h n : ℕ) → format ≡ FourBytes layout → AllowedSides w h
     → n ≡ check_sides_of (λ (_ : ℕ). 0) w h (colour_planes_size header w h) → n ≡ alpha_offset_of (format_to_form format) header w h

@@ -98,6 +98,9 @@ fn decode_raw(picture: Picture, body: &[u8], image: &mut [u8])
     );
 }
 
+// The three functions below take header record, slices and sides one by one, as the C interface (rdp6_decode) and README do: the slices are lent for
+// the call alone, and each has a clause of its own.
+
 // Unpacks a picture from its body into the first bytes of the image, and returns their number. An RLE picture uses the work area; a raw one does not
 // change it. Refusals 1 to 6, then 7, 8, 9; FORMAT 8.3 says what each leaves.
 pub fn decode_to(

@@ -88,6 +88,8 @@ pub fn chroma_side(subsampling: bool, side: usize) -> usize
     side
 }
 
+// The sizes answer 0 for sides that are refused, which a `Picture` excludes, so they take header record and sides one by one, as their clauses say.
+
 // The minimum size of a body, or 0 if the sides are refused.
 pub fn min_body_size(header: BitmapStreamHeader, width: usize, height: usize) -> usize
     ensures { result ≡ check_sides_of (λ (_ : ℕ). 0) width height (min_body_size_of header width height) }
@@ -96,8 +98,7 @@ pub fn min_body_size(header: BitmapStreamHeader, width: usize, height: usize) ->
         return 0;
     };
     let rle = header.enable_rle_compression;
-    let definition = header.color_plane_definition;
-    let subsampling = has_subsampled_chroma(definition);
+    let subsampling = has_subsampled_chroma(header.color_plane_definition);
     let color = min_color_planes_size(rle, subsampling, sides);
     if header.use_alpha {
         return min_plane_size(rle, sides) + color;
@@ -112,8 +113,7 @@ pub fn color_planes_size(header: BitmapStreamHeader, width: usize, height: usize
     let Ok(sides) = ValidSides::new(width, height) else {
         return 0;
     };
-    let definition = header.color_plane_definition;
-    let subsampling = has_subsampled_chroma(definition);
+    let subsampling = has_subsampled_chroma(header.color_plane_definition);
     min_color_planes_size(false, subsampling, sides)
 }
 
@@ -148,8 +148,7 @@ pub fn work_size(
         return 0;
     };
     if header.enable_rle_compression {
-        let definition = header.color_plane_definition;
-        let subsampling = has_subsampled_chroma(definition);
+        let subsampling = has_subsampled_chroma(header.color_plane_definition);
         let color = min_color_planes_size(false, subsampling, sides);
         return shown_alpha_size(format, header.use_alpha, sides.width, sides.height) + color;
     }
