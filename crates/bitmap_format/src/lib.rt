@@ -54,13 +54,13 @@ pub struct Encoded {
 pub fn has_subsampled_chroma(definition: ColorPlaneDefinition) -> bool
     ensures { result ≡ subsampled definition }
 {
-    match definition {
-        ColorPlaneDefinition::Argb => false,
+    matches!(
+        definition,
         ColorPlaneDefinition::AYCoCg {
-            use_chroma_subsampling,
+            use_chroma_subsampling: true,
             ..
-        } => use_chroma_subsampling,
-    }
+        }
+    )
 }
 
 // Whether the definition is AYCoCg with a loss level outside 1 to 7.
@@ -68,13 +68,13 @@ pub fn has_subsampled_chroma(definition: ColorPlaneDefinition) -> bool
 pub fn is_loss_level_invalid(definition: ColorPlaneDefinition) -> bool
     ensures { result ≡ is_loss_level_invalid_of definition }
 {
-    match definition {
-        ColorPlaneDefinition::Argb => false,
+    matches!(
+        definition,
         ColorPlaneDefinition::AYCoCg {
-            color_loss_level,
+            color_loss_level: 0 | 8..=255,
             ..
-        } => !matches!(color_loss_level, 1..=7),
-    }
+        }
+    )
 }
 
 // A side of a chroma plane, given that of the picture (FORMAT 2.2).
