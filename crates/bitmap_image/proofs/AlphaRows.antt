@@ -6,7 +6,6 @@ use mathlib.Core.List.{List, []}
 use native.Mathlib.Omega.{arith}
 use lib.ListN.{length, get_or, replicate, get_or-replicate, length-replicate}
 use Rattle.rle_format.specs.Slice.{write_at}
-use Rattle.rle_format.proofs.Slice.{suffix, suffix_drop, suffix_room}
 use Rattle.pixel_format.specs.declared.PixelFormat.{PixelFormat}
 use Rattle.pixel_format.specs.declared.PixelFormat.TheVariants.{Rgb24, FourBytes}
 use Rattle.pixel_format.specs.declared.PixelLayout.{PixelLayout}
@@ -23,10 +22,6 @@ rows_same : (size : ℕ) (f g : ℕ → List ℕ) (n : ℕ) (image : List ℕ) �
 unfolding write_rows
 rows_same size f g zero image h = refl
 rows_same size f g (suc n) image h = λ i. write_at (rows_same size f g n image h i) (n * size) (h n i)
-
--- an array, passed as a part that begins at 0
-pub array_room : (n v need : ℕ) → need ≤ n → need ≤ length (suffix (replicate n v) 0)
-array_room n v need l = suffix_room (replicate n v) 0 need (simp length-replicate (omega arith))
 
 -- ---- the alpha of a pixel
 
@@ -68,11 +63,10 @@ module _ (d : ColorPlaneDefinition) (flagged : Bool) (size width height : ℕ) (
 
   -- the same row of 255 for all
   pub opaque_rows : (form : PixelForm) (n : ℕ) → flagged ≡ false → width ≤ n
-      → write_rows size (row_with form d flagged width height planes (suffix (replicate n 255) 0) 0) height image ≡ write_rows size (image_row form d flagged width height planes alpha) height image
+      → write_rows size (row_with form d flagged width height planes (replicate n 255) 0) height image ≡ write_rows size (image_row form d flagged width height planes alpha) height image
   unfolding image_row
   opaque_rows form n e l =
-      ap (λ (row : List ℕ). write_rows size (row_with form d flagged width height planes row 0) height image) (suffix_drop (replicate n 255) 0)
-      ∙ rows_same size (row_with form d flagged width height planes (replicate n 255) 0) (image_row form d flagged width height planes alpha) height image
+      rows_same size (row_with form d flagged width height planes (replicate n 255) 0) (image_row form d flagged width height planes alpha) height image
       (λ row.
       concat_up_to_same width (λ (column : ℕ). pixel_bytes form (colour_at d flagged width height planes row column) (get_or (replicate n 255) (row * 0 + column) 0))
       (λ (column : ℕ). pixel_bytes form (colour_at d flagged width height planes row column) (alpha_at flagged alpha width row column))
@@ -89,7 +83,3 @@ plane_rows_fit flagged Rgb24 layout width height len e t l row lr = let z : ◌�
 plane_rows_fit flagged (FourBytes other) layout width height len e t l row lr =
     let whole : width * height ≤ len = rw t at l in
     omega (arith, row_within row width height lr)
-
--- one row of n bytes, for all rows
-pub one_row_fits : (width height n v : ℕ) → width ≤ n → AlphaRowsFit width height 0 (length (suffix (replicate n v) 0))
-one_row_fits width height n v l row lr = let room = array_room n v width l in omega arith

@@ -1,13 +1,13 @@
 -- The loop that writes the rows of an image: rows of planes passed as parts of a slice, their bounds, and the invariant.
 use Prim.Native.Nat.{ℕ, suc, ◌+◌, ◌*◌, ◌%◌, ◌<◌, ◌≤◌}
-use mathlib.Core.Bool.{Bool, true, false}
+use mathlib.Core.Bool.{Bool, true, false, ◌&&◌}
 use mathlib.Core.Path.{◌≡◌, refl, sym, ap, ◌∙◌}
 use mathlib.Core.List.{List}
 use native.Mathlib.Nat.{zero-mul, suc-mul, mul-le-mul, mul-le-mul_right, mul_comm, zero-add}
 use native.Mathlib.Numerals.{add-one}
 use native.Mathlib.Omega.{arith}
 use lib.Dec.{eqb}
-use lib.ListN.{length, get_or}
+use lib.ListN.{length, drop, get_or}
 use lib.Seq.{get_or-drop}
 use Rattle.rle_format.specs.Choice.{choose}
 use Rattle.rle_format.specs.Slice.{overwrite, write_at}
@@ -53,19 +53,23 @@ module _ (planes : List ℕ) (s : Bool) (width height row cw ch second third : �
       suffix_sample planes third (third_plane s width height) (chroma_index s row)
       (start_is s width (width * height + cw * ch) row third et ∙ (λ i. width * height + ew i * eh i + chroma_index s row * chroma_side_of s width))
 
+-- where a chroma row starts in another plane, `size` samples behind
+chroma_behind : (s : Bool) (width offset row start size : ℕ) → IsChromaStart s width offset row start → IsChromaStart s width (offset + size) row (start + size)
+chroma_behind s width offset row start size e = omega (arith, e)
+
 -- a row of pixels
-pub row_is : (form : PixelForm) (d : ColorPlaneDefinition) (flagged : Bool) (planes alpha : List ℕ) (width height row step cw ch second third : ℕ) → cw ≡ chroma_side_of (subsampled d) width
+suffix_row_is : (form : PixelForm) (d : ColorPlaneDefinition) (flagged : Bool) (planes alpha : List ℕ) (width height row step cw ch second third : ℕ) → cw ≡ chroma_side_of (subsampled d) width
     → ch ≡ chroma_side_of (subsampled d) height → IsChromaStart (subsampled d) width (width * height) row second → IsChromaStart (subsampled d) width (width * height + cw * ch) row third
     → row_pixels form d flagged (suffix planes (row * width)) (suffix planes second) (suffix planes third) (suffix alpha (row * step)) width
     ≡ row_with form d flagged width height planes alpha step row
 unfolding colour_at chroma_index
-row_is form Argb flagged planes alpha width height row step cw ch second third ew eh es et =
+suffix_row_is form Argb flagged planes alpha width height row step cw ch second third ew eh es et =
     λ i. concat_up_to width
     (λ (column : ℕ).
     pixel_bytes form
     (rgb (first_is planes false width height row cw ch second third ew eh es et column i) (second_is planes false width height row cw ch second third ew eh es et column i)
     (third_is planes false width height row cw ch second third ew eh es et column i)) (suffix_at alpha (row * step) column i))
-row_is form (AYCoCg level s) flagged planes alpha width height row step cw ch second third ew eh es et =
+suffix_row_is form (AYCoCg level s) flagged planes alpha width height row step cw ch second third ew eh es et =
     λ i. concat_up_to width
     (λ (column : ℕ).
     pixel_bytes form
@@ -73,34 +77,16 @@ row_is form (AYCoCg level s) flagged planes alpha width height row step cw ch se
     (second_is planes s width height row cw ch second third ew eh es et (chroma_index s column) i)
     (third_is planes s width height row cw ch second third ew eh es et (chroma_index s column) i)) (suffix_at alpha (row * step) column i))
 
--- ---- where rows start
-
--- the rows of the image, `pitch` bytes apart
-pub index_first : (pitch : ℕ) → 0 ≡ 0 * pitch
-index_first pitch = sym (zero-mul pitch)
-
-pub index_next : (row pitch to : ℕ) → to ≡ row * pitch → to + pitch ≡ (row + 1) * pitch
-index_next row pitch to e = ap (λ (k : ℕ). k + pitch) e ∙ sym (suc-mul row pitch) ∙ ap (λ (k : ℕ). k * pitch) (sym (add-one row))
-
--- the next chroma row: t, cw, `even` and `step` are what the code has for s, the width of a chroma plane and the steps
-pub chroma_next : (s t : Bool) (width offset row cw even step start : ℕ) → t ≡ s → cw ≡ chroma_side_of s width → even ≡ choose t 0 cw → step ≡ choose (eqb (row % 2) 0) even cw
-    → IsChromaStart s width offset row start → IsChromaStart s width offset (row + 1) (start + step)
-chroma_next s t width offset row cw even step start et ew ee ep es =
-    let counted : counter_step s (chroma_side_of s width) row ≡ step = (λ i. counter_step (sym et i) (sym ew i) row) ∙ step_by_parity t cw row even ee ∙ sym ep in
-    start_next s width offset row start es ∙ ap (λ (k : ℕ). start + k) counted
-
--- which is at most the width of a chroma plane further
-pub step_max : (t : Bool) (row cw even step : ℕ) → even ≡ choose t 0 cw → step ≡ choose (eqb (row % 2) 0) even cw → step ≤ cw
-step_max t row cw even step ee ep = go t (eqb (row % 2) 0) (ep ∙ ap (λ (k : ℕ). choose (eqb (row % 2) 0) k cw) ee)
-  where
-    go : (t p : Bool) → step ≡ choose p (choose t 0 cw) cw → step ≤ cw
-    go t false e = omega arith
-    go true true e = omega arith
-    go false true e = omega arith
-
--- in another plane, `size` samples behind
-pub chroma_behind : (s : Bool) (width offset row start size : ℕ) → IsChromaStart s width offset row start → IsChromaStart s width (offset + size) row (start + size)
-chroma_behind s width offset row start size e = omega (arith, e)
+-- the same for rows that a call gave: first, second and third
+pub row_is : (form : PixelForm) (d : ColorPlaneDefinition) (flagged : Bool) (planes alpha : List ℕ) (width height row step start : ℕ) (first second third : List ℕ)
+    → IsChromaStart (subsampled d) width (width * height) row start → first ≡ drop (row * width) planes → second ≡ drop start planes
+    → third ≡ drop (start + chroma_side_of (subsampled d) width * chroma_side_of (subsampled d) height) planes
+    → row_pixels form d flagged first second third (suffix alpha (row * step)) width ≡ row_with form d flagged width height planes alpha step row
+row_is form d flagged planes alpha width height row step start first second third counted ef es et =
+    let size : ℕ = chroma_side_of (subsampled d) width * chroma_side_of (subsampled d) height in
+    (λ i. row_pixels form d flagged ((ef ∙ sym (suffix_drop planes (row * width))) i) ((es ∙ sym (suffix_drop planes start)) i) ((et ∙ sym (suffix_drop planes (start + size))) i) (suffix alpha (row * step)) width)
+    ∙ suffix_row_is form d flagged planes alpha width height row step (chroma_side_of (subsampled d) width) (chroma_side_of (subsampled d) height) start (start + size) refl refl counted
+    (chroma_behind (subsampled d) width (width * height) row start size counted)
 
 -- ---- the room of a row
 
@@ -109,64 +95,46 @@ row_within row width height h =
     let m : suc row * width ≤ height * width = mul-le-mul_right width (omega arith) in
     omega (arith, suc-mul row width, mul_comm height width)
 
--- the sizes of the planes: cw and ch are the sides of a chroma plane, len the length of the planes
-pub record Areas (width height cw ch len : ℕ) : Type 0 where
-  pub full_most : width * height ≤ 67108864
-  pub chroma_most : cw * ch ≤ 67108864
-  pub all : width * height + 2 * (cw * ch) ≤ len
+-- the chroma row of a row lies within its plane
+pub chroma_row_within : (s : Bool) (width height row start : ℕ) → row < height → IsChromaStart s width (width * height) row start
+    → start + chroma_side_of s width ≤ width * height + chroma_side_of s width * chroma_side_of s height
+chroma_row_within s width height row start lr es =
+    let within = row_within (chroma_index s row) (chroma_side_of s width) (chroma_side_of s height) (place_below s row height lr) in
+    omega (arith, within, start_is s width (width * height) row start es)
 
--- and of a row, whose chroma rows start at `second` and `third`
-pub record Rooms (width height row cw ch second third len : ℕ) : Type 0 where
-  pub first_row : row * width + width ≤ width * height
-  pub second_row : second + cw ≤ width * height + cw * ch
-  pub third_row : third + cw ≤ width * height + 2 * (cw * ch)
-  pub full_most : width * height ≤ 67108864
-  pub chroma_most : cw * ch ≤ 67108864
-  pub all : width * height + 2 * (cw * ch) ≤ len
+-- and so does the next one, as an index
+pub next_start_small : (s : Bool) (width height row start : ℕ) → width ≤ 8192 → height ≤ 8192 → row < height → IsChromaStart s width (width * height) row start
+    → start + counter_step s (chroma_side_of s width) row ≤ 536870912
+unfolding counter_step
+next_start_small s width height row start lw lh lr es =
+    let most : width * height ≤ 67108864 = area_max width height lw lh in
+    let chroma_most : chroma_side_of s width * chroma_side_of s height ≤ 67108864 =
+    area_max (chroma_side_of s width) (chroma_side_of s height) (omega (arith, chroma_side-max s width)) (omega (arith, chroma_side-max s height)) in
+    omega (arith, chroma_row_within s width height row start lr es, step_most s (chroma_side_of s width) row)
+  where
+    step_most : (s : Bool) (step n : ℕ) → counter_step s step n ≤ step
+    step_most s step n = go (s && eqb (n % 2) 0)
+      where
+        go : (t : Bool) → choose t 0 step ≤ step
+        go true = omega arith
+        go false = omega arith
 
-module _ (s : Bool) (width height cw ch len : ℕ) (lw : width ≤ 8192) (lh : height ≤ 8192) (ew : cw ≡ chroma_side_of s width) (eh : ch ≡ chroma_side_of s height)
-    (l : sum_over sample_count_of (colour_planes s width height) ≤ len) where
-  pub areas : Areas width height cw ch len
-  areas = record {
-    full_most = area_max width height lw lh;
-    chroma_most = area_max cw ch (omega (arith, chroma_side-max s width)) (omega (arith, chroma_side-max s height));
-    all = rw (ew, eh) (rw (colour_sum_sides false s width height) at l);
-  }
+-- where the rows of the planes are, for a row whose chroma row starts at `start`: cw and ch are the sides of a chroma plane, len the length of the planes
+pub record RowPlaces (width row start cw ch len : ℕ) : Type 0 where
+  pub first_row : row * width + width ≤ len
+  pub second_row : start + cw ≤ len
+  pub third_row : start + cw * ch + cw ≤ len
+  pub small : start + cw * ch ≤ 536870912
 
-  pub rooms : (row second third : ℕ) → row < height → IsChromaStart s width (width * height) row second → IsChromaStart s width (width * height + cw * ch) row third
-      → Rooms width height row cw ch second third len
-  rooms row second third lr es et =
-      let below : chroma_index s row < ch = rw eh (place_below s row height lr) in
-      let within = row_within (chroma_index s row) cw ch below in
-      let wide : chroma_index s row * chroma_side_of s width ≡ chroma_index s row * cw = ap (λ (k : ℕ). chroma_index s row * k) (sym ew) in
-      record {
-        first_row = row_within row width height lr;
-        second_row = omega (arith, within, wide, start_is s width (width * height) row second es);
-        third_row = omega (arith, within, wide, start_is s width (width * height + cw * ch) row third et);
-        full_most = areas.full_most;
-        chroma_most = areas.chroma_most;
-        all = areas.all;
-      }
-
--- the same by what the code has: t is its `subsampling`
-module _ (d : ColorPlaneDefinition) (t : Bool) (width height cw ch len : ℕ) (flag : t ≡ subsampled d) (ew : cw ≡ chroma_side_of t width) (eh : ch ≡ chroma_side_of t height) where
-  pub columns_of : cw ≡ chroma_side_of (subsampled d) width
-  columns_of = ew ∙ ap (λ (b : Bool). chroma_side_of b width) flag
-
-  pub lines_of : ch ≡ chroma_side_of (subsampled d) height
-  lines_of = eh ∙ ap (λ (b : Bool). chroma_side_of b height) flag
-
-  module _ (lw : width ≤ 8192) (lh : height ≤ 8192) (l : sum_over sample_count_of (colour_planes (subsampled d) width height) ≤ len) where
-    pub areas_of : Areas width height cw ch len
-    areas_of = areas (subsampled d) width height cw ch len lw lh columns_of lines_of l
-
-    pub rooms_of : (row second third : ℕ) → row < height → IsChromaStart (subsampled d) width (width * height) row second
-        → IsChromaStart (subsampled d) width (width * height + cw * ch) row third → Rooms width height row cw ch second third len
-    rooms_of row second third lr es et = rooms (subsampled d) width height cw ch len lw lh columns_of lines_of l row second third lr es et
-
-    -- the third plane's row is as far behind the second's as the planes are
-    pub rooms_behind : (row second : ℕ) → row < height → IsChromaStart (subsampled d) width (width * height) row second → Rooms width height row cw ch second (second + cw * ch) len
-    rooms_behind row second lr es = rooms_of row second (second + cw * ch) lr es (chroma_behind (subsampled d) width (width * height) row second (cw * ch) es)
+pub row_places : (s : Bool) (width height cw ch len row start : ℕ) → width ≤ 8192 → height ≤ 8192 → cw ≡ chroma_side_of s width → ch ≡ chroma_side_of s height
+    → sum_over sample_count_of (colour_planes s width height) ≤ len → row < height → start + chroma_side_of s width ≤ width * height + chroma_side_of s width * chroma_side_of s height
+    → RowPlaces width row start cw ch len
+row_places s width height cw ch len row start lw lh ew eh l lr ls =
+    let most : width * height ≤ 67108864 = area_max width height lw lh in
+    let chroma_most : cw * ch ≤ 67108864 = area_max cw ch (omega (arith, ew, chroma_side-max s width)) (omega (arith, eh, chroma_side-max s height)) in
+    let all : width * height + 2 * (cw * ch) ≤ len = rw (ew, eh) (rw (colour_sum_sides false s width height) at l) in
+    let place : start + cw ≤ width * height + cw * ch = rw (ew, eh) ls in
+    record { first_row = omega (arith, row_within row width height lr); second_row = omega arith; third_row = omega arith; small = omega arith }
 
 -- the room of a part, which begins at a small number
 pub record PartRoom (from need len : ℕ) : Type 0 where

@@ -2,7 +2,8 @@
 use Rattle.std.specs.Prelude.{ℕ, ◌+◌, ◌*◌, ◌<◌, ◌≤◌, Bool, List, get_or}
 use Rattle.rle_format.specs.Choice.{choose}
 use Rattle.bitmap_format.specs.declared.ColorPlaneDefinition.{ColorPlaneDefinition}
-use Rattle.bitmap_format.specs.Planes.{subsampled}
+use Rattle.bitmap_format.specs.declared.picture.Picture.{Picture}
+use Rattle.bitmap_format.specs.Planes.{subsampled, chroma_side_of}
 use Rattle.bitmap_format.specs.Pixels.{PixelForm, pixel_bytes}
 use Rattle.bitmap_format.specs.Image.{colour_at, concat_up_to}
 
@@ -18,3 +19,10 @@ AlphaRowsFit width height step len = (row : ℕ) → row < height → row * step
 -- how many samples an array for chroma rows needs: a sample for each column if they are subsampled
 abbrev pub array_width : ColorPlaneDefinition → (width : ℕ) → ℕ
 array_width d width = choose (subsampled d) width 0
+
+-- the width of a chroma plane of a picture, and its size
+abbrev pub chroma_width_of : Picture → ℕ
+chroma_width_of p = chroma_side_of (subsampled p.header.color_plane_definition) p.width
+
+abbrev pub chroma_size_of : Picture → ℕ
+chroma_size_of p = chroma_width_of p * chroma_side_of (subsampled p.header.color_plane_definition) p.height

@@ -2,98 +2,88 @@
 ghost use Rattle.std.specs.Prelude.{◌≡◌, false, ◌*◌, ◌≤◌, length};
 ghost use Rattle.rle_format.specs.Slice.{overwrite};
 ghost use Rattle.pixel_format.specs.Channel.{channel_offsets};
-ghost use Rattle.bitmap_format.specs.Planes.{subsampled, chroma_side_of, colour_planes};
+ghost use Rattle.bitmap_format.specs.Planes.{subsampled, chroma_side_of};
 ghost use Rattle.bitmap_format.specs.Pixels.{four_bytes};
-ghost use Rattle.bitmap_format.specs.Sizes.{sample_count_of, sum_over, row_size, image_size_of};
+ghost use Rattle.bitmap_format.specs.Sizes.{row_size, image_size_of};
 ghost use Rattle.bitmap_format.specs.Image.{write_rows};
 ghost use Rattle.bitmap_format.specs.Picture.{is_loss_level_invalid_of};
 ghost use Rattle.bitmap_rows.specs.Rows.{row_pixels};
-ghost use Rattle.bitmap_image.specs.Rows.{AlphaRowsFit, array_width, row_with};
+ghost use Rattle.bitmap_image.specs.Rows.{array_width, row_with};
 
-use crate::chroma::{chroma_step, even_step};
-use bitmap_format::{ColorPlaneDefinition, chroma_side, has_subsampled_chroma};
-use bitmap_rows::{double_samples, write_pixel_row};
+use crate::planes::ShownPlanes;
+use bitmap_format::{Picture, has_subsampled_chroma};
+use bitmap_rows::{ColorRule, RowSamples, double_samples, write_pixel_row};
 use pixel_format::PixelLayout;
 
 // Writes a row of four-byte pixels. The two arrays are for the chroma samples of a subsampled row, one for each column.
 fn write_row(
     layout: PixelLayout,
-    definition: ColorPlaneDefinition,
-    flagged: bool,
-    first: &[u8],
-    second: &[u8],
-    third: &[u8],
+    rule: ColorRule,
+    samples: RowSamples<'_>,
     alpha: &[u8],
     dst: &mut [u8],
     width: usize,
     co: &mut [u8],
     cg: &mut [u8],
 )
-    requires { (is_loss_level_invalid_of definition ≡ false) × (width ≤ length first.now) × (chroma_side_of (subsampled definition) width ≤ length second.now) × (chroma_side_of (subsampled definition) width ≤ length third.now) × (width ≤ length alpha.now) × (4 * width ≤ length dst.old) × (array_width definition width ≤ length co.old) × (array_width definition width ≤ length cg.old) }
-    ensures { dst.new ≡ overwrite dst.old (row_pixels (four_bytes (channel_offsets layout)) definition flagged first.now second.now third.now alpha.now width) }
+    requires { (is_loss_level_invalid_of rule.definition ≡ false) × (width ≤ length samples.first.now) × (chroma_side_of (subsampled rule.definition) width ≤ length samples.second.now) × (chroma_side_of (subsampled rule.definition) width ≤ length samples.third.now) × (width ≤ length alpha.now) × (4 * width ≤ length dst.old) × (array_width rule.definition width ≤ length co.old) × (array_width rule.definition width ≤ length cg.old) }
+    ensures { dst.new ≡ overwrite dst.old (row_pixels (four_bytes (channel_offsets layout)) rule.definition rule.flagged samples.entry.first.now samples.entry.second.now samples.entry.third.now alpha.now width) }
 {
-    if has_subsampled_chroma(definition) {
-        double_samples(second, co, width);
-        double_samples(third, cg, width);
-        write_pixel_row(
-            layout,
-            definition,
-            flagged,
-            first,
-            &co[0..],
-            &cg[0..],
-            alpha,
-            dst,
-            width,
-        );
+    if has_subsampled_chroma(rule.definition) {
+        double_samples(samples.second, co, width);
+        double_samples(samples.third, cg, width);
+        let doubled = RowSamples {
+            first: samples.first,
+            second: &co[0..],
+            third: &cg[0..],
+        };
+        write_pixel_row(layout, rule, doubled, alpha, dst, width);
         return;
     }
-    write_pixel_row(
-        layout, definition, flagged, first, second, third, alpha, dst, width,
-    );
+    write_pixel_row(layout, rule, samples, alpha, dst, width);
 }
 
-// Writes the rows of an image of four-byte pixels. Rows of alpha are `step` apart: with a step of 0 all rows have the same.
+// Writes the rows of an image of four-byte pixels.
 pub(crate) fn write_pixel_rows(
     layout: PixelLayout,
-    definition: ColorPlaneDefinition,
-    flagged: bool,
-    planes: &[u8],
-    alpha: &[u8],
-    step: usize,
+    shown: ShownPlanes<'_, '_>,
     image: &mut [u8],
-    width: usize,
-    height: usize,
     co: &mut [u8],
     cg: &mut [u8],
 )
-    requires { (is_loss_level_invalid_of definition ≡ false) × (width ≤ 8192) × (height ≤ 8192) × (sum_over sample_count_of (colour_planes (subsampled definition) width height) ≤ length planes.now) × (step ≤ 8192) × AlphaRowsFit width height step (length alpha.now) × (image_size_of (four_bytes (channel_offsets layout)) width height ≤ length image.old) × (array_width definition width ≤ length co.old) × (array_width definition width ≤ length cg.old) }
-    ensures { image.new ≡ write_rows (row_size (four_bytes (channel_offsets layout)) width) (row_with (four_bytes (channel_offsets layout)) definition flagged width height planes.now alpha.now step) height image.old }
+    requires { (image_size_of (four_bytes (channel_offsets layout)) shown.colors.picture.width shown.colors.picture.height ≤ length image.old) × (array_width shown.colors.picture.header.color_plane_definition shown.colors.picture.width ≤ length co.old) × (array_width shown.colors.picture.header.color_plane_definition shown.colors.picture.width ≤ length cg.old) }
+    ensures { image.new ≡ write_rows (row_size (four_bytes (channel_offsets layout)) shown.entry.colors.picture.width) (row_with (four_bytes (channel_offsets layout)) shown.entry.colors.picture.header.color_plane_definition shown.entry.colors.picture.header.use_alpha shown.entry.colors.picture.width shown.entry.colors.picture.height shown.entry.colors.planes.now shown.entry.alpha.now shown.entry.step) shown.entry.colors.picture.height image.old }
 {
-    let subsampling = has_subsampled_chroma(definition);
-    let chroma_width = chroma_side(subsampling, width);
-    let chroma_size = chroma_width * chroma_side(subsampling, height);
+    let ShownPlanes {
+        colors,
+        alpha,
+        step,
+        ..
+    } = shown;
+    let Picture {
+        header,
+        width,
+        height,
+        ..
+    } = colors.picture;
+    let rule = ColorRule {
+        definition: header.color_plane_definition,
+        flagged: header.use_alpha,
+    };
     let size = 4 * width;
-    let even = even_step(subsampling, chroma_width);
-    let mut row = 0;
-    let mut to = 0;
     let mut second = width * height;
-    while row < height {
+    for row in 0..height {
+        let samples = colors.row_samples(row, second);
         write_row(
             layout,
-            definition,
-            flagged,
-            &planes[row * width..],
-            &planes[second..],
-            &planes[second + chroma_size..],
+            rule,
+            samples,
             &alpha[row * step..],
-            &mut image[to..],
+            &mut image[row * size..],
             width,
             co,
             cg,
         );
-        second = second + chroma_step(even, chroma_width, row);
-        to = to + size;
-        row = row + 1;
+        second += colors.chroma_step(row);
     }
 }

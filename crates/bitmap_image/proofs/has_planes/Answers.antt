@@ -1,58 +1,28 @@
--- `has_planes`: each return by the law of the check that led to it (PlanesFit.antt).
-use Rattle.std.proofs.Common.{◌≡◌, ℕ, not, ap, ◌∙◌, arith}
-use Rattle.rle_format.proofs.Sides.{check_sides_passes}
-use Rattle.bitmap_format.specs.Pixels.{format_to_form, shown_alpha_size_of}
-use Rattle.bitmap_format.specs.Sizes.{colour_planes_size, image_size_of}
-use Rattle.bitmap_image.proofs.PlanesFit.{sides_refused, sides_passed, unfit_sides, unfit_image, unfit_planes, unfit_alpha, fit_by_level}
+-- `has_planes`: its three tests are those of `planes_fit`, for a picture that passed refusals 1 to 3.
+use Rattle.std.proofs.Common.{◌≡◌, Bool, true, false, sym, ◌∙◌}
+use Rattle.std.proofs.lemmas.Bool.{lt-leb}
+use Rattle.bitmap_format.specs.Pixels.{format_to_form}
+use Rattle.bitmap_image.proofs.PlanesFit.{fit_by_alpha, unfit_planes, unfit_image}
 use Rattle.bitmap_image.proofs.has_planes.Goals as goal
+use Rattle.bitmap_image.proofs.has_planes.Goals.{then-image_size-image, else-image_size-image}
 
-pub returns-then-size-eq0 : goal.returns-then-size-eq0
-returns-then-size-eq0 c =
+pub returns-then-color_planes_size-planes : goal.returns-then-color_planes_size-planes
+returns-then-color_planes_size-planes c =
     let a = c.args in
-    unfit_sides (format_to_form a.format) a.header a.width a.height a.planes a.alpha a.image
-    (sides_refused (format_to_form a.format) a.width a.height c.image_size-size.result c.image_size-size.ensures c.if-size-eq0.true)
+    let p = a.picture in
+    elim c.if-image_size-image.branch [
+      | then-image_size-image w ↦ sym (fit_by_alpha (format_to_form p.format) p.header p.width p.height a.planes a.alpha a.image p.allowed p.level _ c.image_size.ensures w.if-image_size-image.true _
+          w.color_planes_size.ensures (sym w.value-is ∙ c.if-color_planes_size-planes.true) _ c.shown_alpha_size.ensures.size)
+      | else-image_size-image w ↦ let z : true ≡ false = sym c.if-color_planes_size-planes.true ∙ w.value-is ∙ lt-leb _ _ w.if-image_size-image.false in absurd cc
+    ]
 
-pub returns-then-image-size : goal.returns-then-image-size
-returns-then-image-size c =
+pub returns-else-color_planes_size-planes : goal.returns-else-color_planes_size-planes
+returns-else-color_planes_size-planes c =
     let a = c.args in
-    let s = sides_passed (format_to_form a.format) a.width a.height c.image_size-size.result c.image_size-size.ensures c.if-size-eq0.false in
-    let z : c.image_size-size.result ≡ image_size_of (format_to_form a.format) a.width a.height =
-    c.image_size-size.ensures ∙ check_sides_passes (λ (_ : ℕ). 0) a.width a.height (image_size_of (format_to_form a.format) a.width a.height) s in
-    unfit_image (format_to_form a.format) a.header a.width a.height a.planes a.alpha a.image s (omega (arith, z, c.if-image-size.true))
-
-pub returns-then-planes-color_planes_size : goal.returns-then-planes-color_planes_size
-returns-then-planes-color_planes_size c =
-    let a = c.args in
-    let s = sides_passed (format_to_form a.format) a.width a.height c.image_size-size.result c.image_size-size.ensures c.if-size-eq0.false in
-    let z : c.image_size-size.result ≡ image_size_of (format_to_form a.format) a.width a.height =
-    c.image_size-size.ensures ∙ check_sides_passes (λ (_ : ℕ). 0) a.width a.height (image_size_of (format_to_form a.format) a.width a.height) s in
-    let k : c.color_planes_size.result ≡ colour_planes_size a.header a.width a.height =
-    c.color_planes_size.ensures ∙ check_sides_passes (λ (_ : ℕ). 0) a.width a.height (colour_planes_size a.header a.width a.height) s in
-    unfit_planes (format_to_form a.format) a.header a.width a.height a.planes a.alpha a.image s (omega (arith, z, c.if-image-size.false)) (omega (arith, k, c.if-planes-color_planes_size.true))
-
-pub returns-then-alpha-shown_alpha_size : goal.returns-then-alpha-shown_alpha_size
-returns-then-alpha-shown_alpha_size c =
-    let a = c.args in
-    let s = sides_passed (format_to_form a.format) a.width a.height c.image_size-size.result c.image_size-size.ensures c.if-size-eq0.false in
-    let z : c.image_size-size.result ≡ image_size_of (format_to_form a.format) a.width a.height =
-    c.image_size-size.ensures ∙ check_sides_passes (λ (_ : ℕ). 0) a.width a.height (image_size_of (format_to_form a.format) a.width a.height) s in
-    let k : c.color_planes_size.result ≡ colour_planes_size a.header a.width a.height =
-    c.color_planes_size.ensures ∙ check_sides_passes (λ (_ : ℕ). 0) a.width a.height (colour_planes_size a.header a.width a.height) s in
-    let y : c.shown_alpha_size.result ≡ shown_alpha_size_of (format_to_form a.format) a.header.use_alpha a.width a.height =
-    c.shown_alpha_size.ensures.size ∙ check_sides_passes (λ (_ : ℕ). 0) a.width a.height (shown_alpha_size_of (format_to_form a.format) a.header.use_alpha a.width a.height) s in
-    unfit_alpha (format_to_form a.format) a.header a.width a.height a.planes a.alpha a.image s (omega (arith, z, c.if-image-size.false)) (omega (arith, k, c.if-planes-color_planes_size.false))
-    (omega (arith, y, c.if-alpha-shown_alpha_size.true))
-
-pub returns : goal.returns
-returns c =
-    let a = c.args in
-    let s = sides_passed (format_to_form a.format) a.width a.height c.image_size-size.result c.image_size-size.ensures c.if-size-eq0.false in
-    let z : c.image_size-size.result ≡ image_size_of (format_to_form a.format) a.width a.height =
-    c.image_size-size.ensures ∙ check_sides_passes (λ (_ : ℕ). 0) a.width a.height (image_size_of (format_to_form a.format) a.width a.height) s in
-    let k : c.color_planes_size.result ≡ colour_planes_size a.header a.width a.height =
-    c.color_planes_size.ensures ∙ check_sides_passes (λ (_ : ℕ). 0) a.width a.height (colour_planes_size a.header a.width a.height) s in
-    let y : c.shown_alpha_size.result ≡ shown_alpha_size_of (format_to_form a.format) a.header.use_alpha a.width a.height =
-    c.shown_alpha_size.ensures.size ∙ check_sides_passes (λ (_ : ℕ). 0) a.width a.height (shown_alpha_size_of (format_to_form a.format) a.header.use_alpha a.width a.height) s in
-    ap not c.is_loss_level_invalid.ensures
-    ∙ fit_by_level (format_to_form a.format) a.header a.width a.height a.planes a.alpha a.image s (omega (arith, z, c.if-image-size.false)) (omega (arith, k, c.if-planes-color_planes_size.false))
-    (omega (arith, y, c.if-alpha-shown_alpha_size.false))
+    let p = a.picture in
+    elim c.if-image_size-image.branch [
+      | then-image_size-image w ↦ c.if-color_planes_size-planes.false ∙ sym (unfit_planes (format_to_form p.format) p.header p.width p.height a.planes a.alpha a.image p.allowed p.level _ c.image_size.ensures
+          w.if-image_size-image.true _ w.color_planes_size.ensures (sym w.value-is ∙ c.if-color_planes_size-planes.false))
+      | else-image_size-image w ↦ c.if-color_planes_size-planes.false ∙ sym (unfit_image (format_to_form p.format) p.header p.width p.height a.planes a.alpha a.image p.allowed p.level _ c.image_size.ensures
+          w.if-image_size-image.false)
+    ]
