@@ -11,6 +11,7 @@ use Rattle.case_lines.specs.declared.report.Answer.TheVariants.{Count, Refused}
 use Rattle.case_lines.specs.declared.report.LineResult.{LineResult}
 use Rattle.case_lines.specs.declared.report.LineResult.TheVariants.{Equal, Different}
 use Rattle.case_lines.specs.Counts.{count_of, next_of_number, next_of_answer, next_of_bytes}
+use Rattle.case_lines.specs.Fields.{to_read, field_at, as_meant, number_at, numbers_from, answer_in}
 use Rattle.case_lines.specs.Layouts.{layout_of, flag_of}
 use Rattle.case_lines.specs.Results.{guard, answer_of, case_result_of}
 
@@ -19,6 +20,14 @@ pub data Example : Type 0 where
   number_read : Option (ℕ × Bor (List ℕ)) → (next : ℕ) → Example
   answer_read : Option (Answer × Bor (List ℕ)) → (next : ℕ) → Example
   bytes_read : Option (ℕ × Bor (List ℕ)) → (count next : ℕ) → Example
+  -- a line, and its first field, the number in it, the next two numbers, the answer or the flag in it, with what is left of the line
+  has_field : (line : List ℕ) → Option (List ℕ × List ℕ) → Example
+  has_number : (line : List ℕ) → Option (ℕ × List ℕ) → Example
+  has_numbers : (line : List ℕ) → Option (List ℕ × List ℕ) → Example
+  has_answer : (line : List ℕ) → Option (Answer × List ℕ) → Example
+  has_flag : (line : List ℕ) → Option (Bool × List ℕ) → Example
+  -- what a function returned, and what that is without its reference
+  shows : Option (ℕ × Bor (List ℕ)) → Option (ℕ × List ℕ) → Example
   -- a number, and the layout that it means
   layout_read : (number : ℕ) → Option PixelLayout → Example
   -- a number, and the flag that it means
@@ -30,8 +39,12 @@ pub data Example : Type 0 where
   -- two answers, what else was compared, and the result
   compares : (expected got : Answer) (header_equal bytes_equal guards_unchanged : Bool) → LineResult → Example
 
--- numbers, a layout, a flag, an answer or a result
+-- numbers, what a line has, a layout, a flag, an answer or a result
 pub data Meaning : Type 0 where
+  field : Option (List ℕ × List ℕ) → Meaning
+  number_meant : Option (ℕ × List ℕ) → Meaning
+  answer_meant : Option (Answer × List ℕ) → Meaning
+  flag_left : Option (Bool × List ℕ) → Meaning
   numbers : List ℕ → Meaning
   layout_meant : Option PixelLayout → Meaning
   flag_meant : Option Bool → Meaning
@@ -51,6 +64,12 @@ abbrev pub computed : Example → Meaning
 computed (number_read n next) = numbers (next_of_number line n ∷ [])
 computed (answer_read a next) = numbers (next_of_answer line a ∷ [])
 computed (bytes_read b count next) = numbers (count_of b ∷ next_of_bytes line b ∷ [])
+computed (has_field bs f) = field (field_at bs)
+computed (has_number bs n) = number_meant (number_at bs)
+computed (has_numbers bs ns) = field (numbers_from [] 2 bs)
+computed (has_answer bs a) = answer_meant (as_meant answer_in (field_at bs))
+computed (has_flag bs f) = flag_left (as_meant flag_of (number_at bs))
+computed (shows returned r) = number_meant (to_read returned)
 computed (layout_read n l) = layout_meant (layout_of n)
 computed (flag_read n f) = flag_meant (flag_of n)
 computed (guards bs) = numbers guard
@@ -62,6 +81,12 @@ abbrev pub expected : Example → Meaning
 expected (number_read n next) = numbers (next ∷ [])
 expected (answer_read a next) = numbers (next ∷ [])
 expected (bytes_read b count next) = numbers (count ∷ next ∷ [])
+expected (has_field bs f) = field f
+expected (has_number bs n) = number_meant n
+expected (has_numbers bs ns) = field ns
+expected (has_answer bs a) = answer_meant a
+expected (has_flag bs f) = flag_left f
+expected (shows returned r) = number_meant r
 expected (layout_read n l) = layout_meant l
 expected (flag_read n f) = flag_meant f
 expected (guards bs) = numbers bs
@@ -72,7 +97,7 @@ expected (compares e g header bs gs r) = result r
 abbrev pub different : (expected got : Answer) (header_equal bytes_equal guards_unchanged : Bool) → LineResult
 different e g header bs gs = Different (record { expected = e; got = g; header_equal = header; slices = record { bytes_equal = bs; guards_unchanged = gs } })
 
--- fields that were read, and malformed ones; the four layouts, and two numbers that mean none; the two flags, and two numbers that mean none; the
+-- fields that were read, and malformed ones; fields that end with a space, with a newline, and with nothing; the largest number, and one more; the four layouts, and two numbers that mean none; the two flags, and two numbers that mean none; the
 -- guard bytes; a count and two refusals; a case with everything as expected, and five with one difference each
 abbrev pub examples : List Example
 examples =
@@ -82,6 +107,25 @@ examples =
     ∷ answer_read None 0
     ∷ bytes_read (Some (3, left 3)) 3 7
     ∷ bytes_read None 0 0
+    ∷ has_field (49 ∷ 50 ∷ 32 ∷ 51 ∷ 10 ∷ []) (Some (49 ∷ 50 ∷ [], 51 ∷ 10 ∷ []))
+    ∷ has_field (10 ∷ []) (Some ([], []))
+    ∷ has_field (49 ∷ 50 ∷ []) None
+    ∷ has_number (49 ∷ 50 ∷ 32 ∷ 51 ∷ 10 ∷ []) (Some (12, 51 ∷ 10 ∷ []))
+    ∷ has_number (10 ∷ []) None
+    ∷ has_number (49 ∷ 65 ∷ 10 ∷ []) None
+    ∷ has_number (45 ∷ 49 ∷ 10 ∷ []) None
+    ∷ has_number (49 ∷ 56 ∷ 52 ∷ 52 ∷ 54 ∷ 55 ∷ 52 ∷ 52 ∷ 48 ∷ 55 ∷ 51 ∷ 55 ∷ 48 ∷ 57 ∷ 53 ∷ 53 ∷ 49 ∷ 54 ∷ 49 ∷ 53 ∷ 10 ∷ []) (Some (18446744073709551615, []))
+    ∷ has_number (49 ∷ 56 ∷ 52 ∷ 52 ∷ 54 ∷ 55 ∷ 52 ∷ 52 ∷ 48 ∷ 55 ∷ 51 ∷ 55 ∷ 48 ∷ 57 ∷ 53 ∷ 53 ∷ 49 ∷ 54 ∷ 49 ∷ 54 ∷ 10 ∷ []) None
+    ∷ has_numbers (49 ∷ 32 ∷ 50 ∷ 32 ∷ 51 ∷ 10 ∷ []) (Some (1 ∷ 2 ∷ [], 51 ∷ 10 ∷ []))
+    ∷ has_numbers (49 ∷ 10 ∷ []) None
+    ∷ has_answer (49 ∷ 50 ∷ 10 ∷ []) (Some (Count 12, []))
+    ∷ has_answer (45 ∷ 49 ∷ 50 ∷ 10 ∷ []) (Some (Refused 12, []))
+    ∷ has_answer (45 ∷ 48 ∷ 10 ∷ []) (Some (Refused 0, []))
+    ∷ has_answer (45 ∷ 10 ∷ []) None
+    ∷ has_flag (49 ∷ 32 ∷ 48 ∷ 10 ∷ []) (Some (true, 48 ∷ 10 ∷ []))
+    ∷ has_flag (50 ∷ 10 ∷ []) None
+    ∷ shows (Some (3, left 3)) (Some (3, replicate 3 0x20))
+    ∷ shows None None
     ∷ layout_read 0 (Some BgrA)
     ∷ layout_read 1 (Some RgbA)
     ∷ layout_read 2 (Some ARgb)

@@ -1,4 +1,5 @@
 pub mod Counts
+pub mod Fields
 pub mod Layouts
 pub mod Results
 pub mod Examples

@@ -1,8 +1,9 @@
 // Reads the fields of one line of a data file. The line is given with its newline. Each field ends with a space or with that newline. A
 // function that reads a field is given what is left of the line. It returns the field's value and what is left after the byte that ends the
 // field, or None for a malformed field. A field that no byte ends is malformed.
-ghost use Rattle.std.specs.Prelude.{◌≡◌, ◌+◌, ◌≤◌, ◌<◌, length, drop, IfSome};
+ghost use Rattle.std.specs.Prelude.{◌≡◌, ◌+◌, ◌≤◌, ◌<◌, [], length, drop, IfSome, option_map, position};
 ghost use Rattle.case_lines.specs.Counts.{count_of, next_of_number, next_of_answer, next_of_bytes, IsRest};
+ghost use Rattle.case_lines.specs.Fields.{to_read, ends_field, field_at, with_digit_of, decimal_in, answer_in, number_at, numbers_from, as_meant};
 ghost use Rattle.case_lines.specs.Layouts.{layout_of, flag_of};
 
 use crate::report::Answer;
@@ -17,7 +18,8 @@ struct Entry {
 
 // Reads a decimal number.
 pub fn next_number(line: &[u8]) -> Option<(usize, &[u8])>
-    ensures { IfSome result (λ p. p.1.now ≡ drop (next_of_number line.now result) line.now) }
+    ensures meaning { to_read result ≡ number_at line.now }
+    ensures rest { IfSome result (λ p. p.1.now ≡ drop (next_of_number line.now result) line.now) }
 {
     let (field, rest) = next_field(line)?;
     Some((decimal_of(field)?, rest))
@@ -25,7 +27,8 @@ pub fn next_number(line: &[u8]) -> Option<(usize, &[u8])>
 
 // Reads as many numbers as the array has elements.
 pub fn next_numbers<const N: usize>(line: &[u8]) -> Option<([usize; N], &[u8])>
-    ensures { IfSome result (λ p. IsRest line.now p.1.now) }
+    ensures meaning { to_read result ≡ numbers_from [] N line.now }
+    ensures rest { IfSome result (λ p. IsRest line.now p.1.now) }
 {
     let mut numbers = [0; N];
     let mut rest = line;
@@ -37,7 +40,8 @@ pub fn next_numbers<const N: usize>(line: &[u8]) -> Option<([usize; N], &[u8])>
 
 // Reads a flag, 0 or 1.
 pub fn next_flag(line: &[u8]) -> Option<(bool, &[u8])>
-    ensures { IfSome result (λ p. IsRest line.now p.1.now) }
+    ensures meaning { to_read result ≡ as_meant flag_of (number_at line.now) }
+    ensures rest { IfSome result (λ p. IsRest line.now p.1.now) }
 {
     let (number, rest) = next_number(line)?;
     Some((flag_of(number)?, rest))
@@ -45,7 +49,8 @@ pub fn next_flag(line: &[u8]) -> Option<(bool, &[u8])>
 
 // Reads the number of a layout.
 pub fn next_layout(line: &[u8]) -> Option<(PixelLayout, &[u8])>
-    ensures { IfSome result (λ p. IsRest line.now p.1.now) }
+    ensures meaning { to_read result ≡ as_meant layout_of (number_at line.now) }
+    ensures rest { IfSome result (λ p. IsRest line.now p.1.now) }
 {
     let (number, rest) = next_number(line)?;
     Some((layout_of(number)?, rest))
@@ -53,14 +58,11 @@ pub fn next_layout(line: &[u8]) -> Option<(PixelLayout, &[u8])>
 
 // Reads an answer: a decimal number, with a minus sign if it is that of a refusal.
 pub fn next_answer(line: &[u8]) -> Option<(Answer, &[u8])>
-    ensures { IfSome result (λ p. p.1.now ≡ drop (next_of_answer line.now result) line.now) }
+    ensures meaning { to_read result ≡ as_meant answer_in (field_at line.now) }
+    ensures rest { IfSome result (λ p. p.1.now ≡ drop (next_of_answer line.now result) line.now) }
 {
     let (signed, rest) = next_field(line)?;
-    let answer = match signed.strip_prefix(b"-".as_slice()) {
-        Some(digits) => Answer::Refused(decimal_of(digits)?),
-        None => Answer::Count(decimal_of(signed)?),
-    };
-    Some((answer, rest))
+    Some((answer_of_field(signed)?, rest))
 }
 
 // Reads a field of bytes into the first bytes of `into`, and returns how many they are.
@@ -99,31 +101,55 @@ pub fn layout_of(number: usize) -> Option<PixelLayout>
 
 // The field at the start of what is left of a line, and what is left after it.
 fn next_field(line: &[u8]) -> Option<(&[u8], &[u8])>
-    ensures { IfSome result (λ p. (length p.0.now + 1 + length p.1.now ≡ length line.now) × IsRest line.now p.1.now) }
+    ensures meaning { option_map (λ p. (p.0.now, p.1.now)) result ≡ field_at line.now }
+    ensures parts { IfSome result (λ p. (length p.0.now + 1 + length p.1.now ≡ length line.now) × IsRest line.now p.1.now) }
 {
-    split_once(line, |byte| *byte == b' ' || *byte == b'\n')
+    let end = field_end(line)?;
+    Some((&line[..end], &line[end + 1..]))
 }
 
-// What stands before and after the first byte that ends a part of a text.
-fn split_once<F: FnMut(&u8) -> bool>(text: &[u8], is_end: F) -> Option<(&[u8], &[u8])>
-    requires { F.IsAlwaysCallable is_end }
-    ensures { IfSome result (λ p. (length p.0.now + 1 + length p.1.now ≡ length text.now) × IsRest text.now p.1.now) }
+// The index of the space or newline that ends a field.
+fn field_end(line: &[u8]) -> Option<usize>
+    ensures value { result ≡ position ends_field line.now }
+    ensures bound { IfSome result (λ end. end < length line.now) }
 {
-    let end = text.iter().position(is_end)?;
-    Some((&text[..end], &text[end + 1..]))
+    line.iter().position(|byte| *byte == b' ' || *byte == b'\n')
+}
+
+// The answer that a field is.
+fn answer_of_field(field: &[u8]) -> Option<Answer>
+    ensures { result ≡ answer_in field.now }
+{
+    match field.strip_prefix(b"-".as_slice()) {
+        Some(digits) => Some(Answer::Refused(decimal_of(digits)?)),
+        None => Some(Answer::Count(decimal_of(field)?)),
+    }
 }
 
 // The value of a field that consists of decimal digits. A value that does not fit into a usize is malformed.
-fn decimal_of(field: &[u8]) -> Option<usize> {
+fn decimal_of(field: &[u8]) -> Option<usize>
+    ensures { result ≡ decimal_in field.now }
+{
     if field.is_empty() {
         return None;
     }
-    let mut value: usize = 0;
+    let mut value = 0;
     for byte in field {
-        let unit = digit(*byte).filter(|unit| *unit < 10)?;
-        value = value.checked_mul(10)?.checked_add(usize::from(unit))?;
+        value = with_digit(value, *byte)?;
     }
     Some(value)
+}
+
+// A number with one more decimal digit.
+fn with_digit(number: usize, digit: u8) -> Option<usize>
+    ensures { result ≡ with_digit_of number digit }
+{
+    match digit {
+        b'0'..=b'9' => number
+            .checked_mul(10)?
+            .checked_add(usize::from(digit - b'0')),
+        _ => None,
+    }
 }
 
 // The value of a hexadecimal digit, in upper case.
@@ -186,11 +212,13 @@ fn next_entry(field: &[u8]) -> Option<(Entry, &[u8])>
 fn next_times(field: &[u8]) -> Option<(usize, &[u8])>
     ensures { IfSome result (λ p. length p.1.now ≤ length field.now) }
 {
-    let (number, rest) = match split_once(field, |byte| *byte == b',') {
+    let (number, rest) = match field.iter().position(|byte| *byte == b',') {
         None => (field, [].as_slice()),
-        Some((_, [])) => return None,
-        Some(parts) => parts,
+        Some(end) => (&field[..end], &field[end + 1..]),
     };
+    if rest.is_empty() && number.len() < field.len() {
+        return None;
+    }
     let times = decimal_of(number)?;
     if times < 2 {
         return None;
