@@ -41,13 +41,15 @@ fn load(rt: &impl Files, path: &[u8], buffer: &mut [u8; BUFFER_SIZE]) -> Result<
     Ok(size)
 }
 
-// The file at `path`, if it can be opened. std takes paths as text, so bytes that are no text are no path of a file.
+// The file at `path`, if it can be opened. A path is bytes, as its callers may have it: std takes paths as text, so bytes that are no text are no path
+// of a file.
 fn open<R: Files>(rt: &R, path: &[u8]) -> Option<R::File> {
     let text = str::from_utf8(path).ok()?;
     fs::open(rt, text).ok()
 }
 
-// Reads into the first bytes of the buffer until it is full, the file ends or a read fails, and returns how many bytes were read.
+// Reads into the first bytes of the buffer until it is full, the file ends or a read fails, and returns how many bytes were read. Each read says how
+// many it read, so no `for` counts them, and std's `read_to_end` needs a Vec.
 fn read_full(file: &mut impl Read, buffer: &mut [u8]) -> usize
     ensures { result ≤ length buffer.new }
 {

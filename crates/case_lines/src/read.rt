@@ -85,7 +85,7 @@ pub fn flag_of(flag: usize) -> Option<bool>
     }
 }
 
-// The layout (FORMAT 7.1) that a line has as a number.
+// The layout (FORMAT 7.1) that a line has as a number. It is no TryFrom, since both types are of other crates.
 #[tactic(auto, unfolding(crate::specs::Layouts::layout_of))]
 pub fn layout_of(number: usize) -> Option<PixelLayout>
     ensures { result ≡ layout_of number }
@@ -175,7 +175,7 @@ fn expand(field: &[u8], into: &mut [u8]) -> Option<usize>
     }
 }
 
-// The same for a field that consists of entries.
+// The same for a field that consists of entries. Entries have one to many bytes each, so no `for` counts the bytes written.
 fn expand_entries(field: &[u8], into: &mut [u8]) -> Option<usize>
     ensures { IfSome result (λ count. count ≤ length into.old) }
 {

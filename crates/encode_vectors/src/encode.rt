@@ -82,7 +82,7 @@ impl Replay for CaseKind {
     }
 }
 
-// Replays the case of a line, or returns None for a malformed line. The source fields have room for ARRAY_SIZE bytes each, the destination for MAX_SLICE.
+// Replays the case of a line, or returns None for a malformed line. Each source field has room for ARRAY_SIZE bytes, the destination for MAX_SLICE.
 fn replay_case(kind: CaseKind, line: &[u8]) -> Option<LineResult> {
     let (case, line) = next_case(kind, line)?;
     match case.layout {
