@@ -61,19 +61,20 @@ struct Case {
     header: Option<ExpectedHeader>,
 }
 
-// The channels of a case, or its pixels. Channels have alpha only if it is packed.
+// The channels of a case, or its pixels.
 #[derive(Clone, Copy)]
 enum Source<'a> {
     Channels(Channels<'a>),
     Pixels(PixelLayout, &'a [u8]),
 }
 
+// Alpha is there only if it is packed.
 #[derive(Clone, Copy)]
 struct Channels<'a> {
     r: &'a [u8],
     g: &'a [u8],
     b: &'a [u8],
-    a: &'a [u8],
+    a: Option<&'a [u8]>,
 }
 
 impl Replay for CaseKind {
@@ -159,7 +160,7 @@ fn replay_channels(case: Case, line: &[u8]) -> Option<LineResult> {
         r: &r[..r_count],
         g: &g[..g_count],
         b: &b[..b_count],
-        a: &a[..a_count],
+        a: case.alpha.then_some(&a[..a_count]),
     };
     replay_source(case, Source::Channels(channels), line)
 }
@@ -208,19 +209,22 @@ fn pack_stream(case: Case, source: Source, dst: &mut [u8]) -> Result<usize, Refu
         ..
     } = case;
     match source {
-        Source::Channels(Channels { r, g, b, a }) => {
-            if case.alpha {
-                bitmap_stream::encode_channels_stream_alpha(r, g, b, a, dst, rle, width, height)
-            } else {
-                bitmap_stream::encode_channels_stream(r, g, b, dst, rle, width, height)
-            }
+        Source::Channels(
+            Channels {
+                r,
+                g,
+                b,
+                a: Some(a),
+            },
+        ) => { bitmap_stream::encode_channels_stream_alpha(r, g, b, a, dst, rle, width, height) }
+        Source::Channels(Channels { r, g, b, a: None }) => {
+            bitmap_stream::encode_channels_stream(r, g, b, dst, rle, width, height)
+        }
+        Source::Pixels(layout, pixels) if case.alpha => {
+            bitmap_stream::encode_bitmap_alpha(layout, pixels, dst, rle, width, height)
         }
         Source::Pixels(layout, pixels) => {
-            if case.alpha {
-                bitmap_stream::encode_bitmap_alpha(layout, pixels, dst, rle, width, height)
-            } else {
-                bitmap_stream::encode_bitmap(layout, pixels, dst, rle, width, height)
-            }
+            bitmap_stream::encode_bitmap(layout, pixels, dst, rle, width, height)
         }
     }
 }
@@ -233,19 +237,22 @@ fn pack_body(case: Case, source: Source, dst: &mut [u8]) -> Result<Encoded, Refu
         ..
     } = case;
     match source {
-        Source::Channels(Channels { r, g, b, a }) => {
-            if case.alpha {
-                bitmap_encoder::encode_channels_body_alpha(r, g, b, a, dst, rle, width, height)
-            } else {
-                bitmap_encoder::encode_channels_body(r, g, b, dst, rle, width, height)
-            }
+        Source::Channels(
+            Channels {
+                r,
+                g,
+                b,
+                a: Some(a),
+            },
+        ) => { bitmap_encoder::encode_channels_body_alpha(r, g, b, a, dst, rle, width, height) }
+        Source::Channels(Channels { r, g, b, a: None }) => {
+            bitmap_encoder::encode_channels_body(r, g, b, dst, rle, width, height)
+        }
+        Source::Pixels(layout, pixels) if case.alpha => {
+            bitmap_encoder::encode_bitmap_body_alpha(layout, pixels, dst, rle, width, height)
         }
         Source::Pixels(layout, pixels) => {
-            if case.alpha {
-                bitmap_encoder::encode_bitmap_body_alpha(layout, pixels, dst, rle, width, height)
-            } else {
-                bitmap_encoder::encode_bitmap_body(layout, pixels, dst, rle, width, height)
-            }
+            bitmap_encoder::encode_bitmap_body(layout, pixels, dst, rle, width, height)
         }
     }
 }
