@@ -1,8 +1,8 @@
 // Writing raw bytes and a run as segments (FORMAT 5.2, 5.3) into an array with room for the whole row. So nothing is tested, and raw bytes are
 // copied 16 at a time, however few they are: the bytes behind them are overwritten by the next segment, or never read.
-// The loops stay `while`, since each turn is a segment: an iterator over parts of 15 raw bytes would first need the last 1 to 15 cut off, which go
-// with the run, by a division at each call. `count` stands beside `raw`, since a copy of 16 reads behind the bytes that it counts. The array and
-// the index stay two parameters: `Put` takes the index behind as the result of a call.
+// The loops stay `while`, since each turn is a segment; with `chunks_exact(15)` each call would divide, which was measured in
+// rle_scanline_encoder. `count` stands beside `raw`, since a copy of 16 reads behind the bytes that it counts. The array and the index stay two
+// parameters: `Put` takes the index behind as the result of a call.
 ghost use Rattle.std.specs.Prelude.{◌≡◌, ◌+◌, ◌<◌, ◌≤◌, [], ◌∷◌, length, take, drop};
 ghost use Rattle.rle_format.specs.Segment.{segments_bytes};
 ghost use Rattle.rle_format.specs.Pack.{literal, repeat, split_segments, long_run};
