@@ -1,4 +1,4 @@
-// Pictures (FORMAT 1, 2; MS-RDPEGDI 2.2.2.5.1): the header record, the types of the answers, and the sizes. The definitions that the contracts of
+// Pictures (FORMAT 1, 2; MS-RDPEGDI 2.2.2.5.1): the header record, pictures that are checked once, and the sizes. The definitions that the contracts of
 // decoder and encoder cite are in specs/.
 #![tactic(auto)]
 
