@@ -3,7 +3,7 @@ use Prim.Native.Nat.{ℕ, suc, ◌+◌, ◌*◌, ◌%◌, ◌<◌, ◌≤◌}
 use mathlib.Core.Bool.{Bool, true, false, ◌&&◌}
 use mathlib.Core.Path.{◌≡◌, refl, sym, ap, ◌∙◌}
 use mathlib.Core.List.{List}
-use native.Mathlib.Nat.{zero-mul, suc-mul, mul-le-mul, mul-le-mul_right, mul_comm, zero-add}
+use native.Mathlib.Nat.{suc-mul, mul-le-mul, mul-le-mul_right, mul_comm, zero-add}
 use native.Mathlib.Numerals.{add-one}
 use native.Mathlib.Omega.{arith}
 use lib.Dec.{eqb}
@@ -21,7 +21,7 @@ use Rattle.bitmap_format.specs.Pixels.{PixelForm, bytes_per_pixel_of, pixel_byte
 use Rattle.bitmap_format.specs.Sizes.{sample_count_of, sum_over, row_size, image_size_of}
 use Rattle.bitmap_format.specs.Image.{sample, chroma_index, colour_at, concat_up_to, write_rows}
 use Rattle.bitmap_format.specs.Counting.{counter_step, IsChromaStart}
-use Rattle.bitmap_format.proofs.Counting.{step_by_parity, start_is, start_next}
+use Rattle.bitmap_format.proofs.Counting.{start_is}
 use Rattle.bitmap_format.proofs.Sizes.{chroma_side-max, colour_sum_sides, bytes_per_pixel-max}
 use Rattle.bitmap_format.proofs.PixelAt.{place_below}
 use Rattle.bitmap_rows.specs.Rows.{row_pixels}

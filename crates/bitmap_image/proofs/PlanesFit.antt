@@ -1,20 +1,18 @@
 -- The checks before an image is written, one after the other, and what is known once all pass.
-use Prim.Native.Nat.{ℕ, ◌*◌, ◌≤◌, ◌<◌}
+use Prim.Native.Nat.{ℕ, ◌≤◌, ◌<◌}
 use mathlib.Core.Bool.{Bool, true, false, not, ◌&&◌, ◌||◌}
 use mathlib.Core.Path.{◌≡◌, refl, sym, ap, ◌∙◌}
 use mathlib.Core.List.{List}
-use native.Mathlib.Nat.{mul-le-mul}
-use native.Mathlib.Omega.{arith}
 use lib.Dec.{leb, ltb, eqb}
 use Rattle.std.specs.Prelude.{Result, Ok, Err}
 use lib.ListN.{length}
 use borrow.Author.Tests.{le-leb, lt-leb, leb-true}
 use Rattle.rle_format.specs.Choice.{choose}
 use Rattle.rle_format.specs.Sides.{check_sides_of, AllowedSides}
-use Rattle.rle_format.proofs.Sides.{are_sides_allowed, allowed_sides, check_sides_passes, check_sides_refuses}
+use Rattle.rle_format.proofs.Sides.{check_sides_passes}
 use Rattle.pixel_format.specs.declared.PixelFormat.{PixelFormat}
 use Rattle.bitmap_format.specs.declared.BitmapStreamHeader.{BitmapStreamHeader}
-use Rattle.bitmap_format.specs.Pixels.{PixelForm, three_bytes, four_bytes, bytes_per_pixel_of, shown_alpha_size_of}
+use Rattle.bitmap_format.specs.Pixels.{PixelForm, shown_alpha_size_of}
 use Rattle.bitmap_format.specs.Sizes.{colour_planes_size, row_size, image_size_of}
 use Rattle.bitmap_format.specs.Image.{image_row, write_rows}
 use Rattle.bitmap_format.specs.Picture.{is_loss_level_invalid_of}

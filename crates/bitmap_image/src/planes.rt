@@ -1,5 +1,6 @@
 // The planes of a picture, with sizes that are checked once.
-ghost use Rattle.std.specs.Prelude.{◌≤◌, length};
+ghost use Rattle.std.specs.Prelude.{◌≡◌, ◌≤◌, length};
+ghost use Rattle.bitmap_format.specs.Counting.{counter_step};
 ghost use Rattle.bitmap_format.specs.Sizes.{colour_planes_size};
 ghost use Rattle.bitmap_image.specs.Rows.{AlphaRowsFit};
 
@@ -24,9 +25,20 @@ pub(crate) struct ShownPlanes<'a, 'b> {
     pub(crate) ghost rows: { AlphaRowsFit colors.picture.width colors.picture.height step (length alpha.now) },
 }
 
+// How far the start of the chroma row goes on behind a row (FORMAT 6.3), given the width of a chroma plane: if subsampled, the row behind an even
+// one has the same chroma row.
+#[tactic(auto, unfolding(bitmap_format::specs::Counting::counter_step))]
+fn step_behind(subsampling: bool, width: usize, row: usize) -> usize
+    ensures { result ≡ counter_step subsampling width row }
+{
+    if subsampling && row % 2 == 0 {
+        return 0;
+    }
+    width
+}
+
 impl<'a> ColorPlanes<'a> {
-    ghost use Rattle.std.specs.Prelude.{◌≡◌, ◌+◌, ◌*◌, ◌<◌, drop};
-    ghost use Rattle.bitmap_format.specs.Counting.{counter_step};
+    ghost use Rattle.std.specs.Prelude.{◌+◌, ◌*◌, ◌<◌, drop};
     ghost use Rattle.bitmap_format.specs.Planes.{subsampled, chroma_side_of};
     ghost use Rattle.bitmap_image.specs.Rows.{chroma_width_of, chroma_size_of};
 
@@ -51,14 +63,15 @@ impl<'a> ColorPlanes<'a> {
         }
     }
 
-    // How far the start of the chroma row goes on behind a row (FORMAT 6.3): if subsampled, the row behind an even one has the same chroma row.
+    // How far the start of the chroma row goes on behind a row.
     pub(crate) fn chroma_step(self, row: usize) -> usize
         ensures { result ≡ counter_step (subsampled self.entry.picture.header.color_plane_definition) (chroma_width_of self.entry.picture) row }
     {
         let subsampling = has_subsampled_chroma(self.picture.header.color_plane_definition);
-        if subsampling && row % 2 == 0 {
-            return 0;
-        }
-        chroma_side(subsampling, self.picture.width)
+        step_behind(
+            subsampling,
+            chroma_side(subsampling, self.picture.width),
+            row,
+        )
     }
 }

@@ -9,7 +9,7 @@ use native.Mathlib.Nat.{mul-one}
 use lib.Dec.{leb}
 use lib.ListN.{length, drop, get_or, get_or-append}
 use lib.Seq.{get_or_at}
-use borrow.Author.Tests.{le-leb, lt-leb, leb-true}
+use borrow.Author.Tests.{le-leb, lt-leb}
 use Rattle.rle_format.specs.Choice.{choose}
 use Rattle.rle_format.specs.Slice.{overwrite}
 use Rattle.rle_format.proofs.Cases.{le_or_gt}

@@ -1,5 +1,5 @@
 -- `has_planes`: its three tests are those of `planes_fit`, for a picture that passed refusals 1 to 3.
-use Rattle.std.proofs.Common.{◌≡◌, Bool, true, false, sym, ◌∙◌}
+use Rattle.std.proofs.Common.{◌≡◌, true, false, sym, ◌∙◌}
 use Rattle.std.proofs.lemmas.Bool.{lt-leb}
 use Rattle.bitmap_format.specs.Pixels.{format_to_form}
 use Rattle.bitmap_image.proofs.PlanesFit.{fit_by_alpha, unfit_planes, unfit_image}

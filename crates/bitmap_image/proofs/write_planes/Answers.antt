@@ -1,5 +1,5 @@
 -- `write_planes`: nothing if the picture cannot be written; else by the form of the pixels, with the rows of the alpha plane or one row of 255.
-use Rattle.std.proofs.Common.{◌≡◌, length, sym, ap, ◌∙◌, arith}
+use Rattle.std.proofs.Common.{length, sym, ◌∙◌, arith}
 use Rattle.pixel_format.specs.declared.PixelFormat.TheVariants.{Rgb24, FourBytes}
 use Rattle.pixel_format.specs.Channel.{channel_offsets}
 use Rattle.rle_format.specs.Answer.{number}

@@ -1,5 +1,5 @@
 -- `write_pixel_row`: nothing is written where a test fails, else what `write_pixels` writes.
-use Rattle.std.proofs.Common.{Bool, ◌*◌, ◌<◌, ◌≤◌, length, sym, ap, ◌∙◌, arith}
+use Rattle.std.proofs.Common.{◌*◌, ◌<◌, ◌≤◌, length, ◌∙◌, arith}
 use Rattle.pixel_format.specs.Channel.{channel_offsets}
 use Rattle.bitmap_format.specs.Pixels.{four_bytes}
 use Rattle.bitmap_rows.specs.Rows.{full_chroma, write_row_of}

@@ -1,7 +1,5 @@
 -- `write_each`: an iteration of its loop is a pixel.
 use Rattle.std.proofs.Common.{◌≡◌, ℕ, List, ◌<◌, length}
-use Rattle.rle_format.specs.Slice.{overwrite}
-use Rattle.bitmap_format.specs.Image.{concat_up_to}
 use Rattle.bitmap_rows.proofs.PixelLoop.{PixelInvariant}
 use Rattle.bitmap_rows.proofs.pixel.write_each.Given as goal
 

@@ -1,8 +1,6 @@
 -- `write_pixels`: each plane definition by the function that it calls; an AYCoCg pixel by the two answers of its layout.
 use Rattle.std.proofs.Common.{false, sym, ap, ◌∙◌}
 use Rattle.pixel_format.specs.Channel.{channel_offsets}
-use Rattle.bitmap_format.specs.declared.ColorPlaneDefinition.{ColorPlaneDefinition}
-use Rattle.bitmap_format.specs.declared.ColorPlaneDefinition.TheVariants.{AYCoCg}
 use Rattle.bitmap_format.specs.Pixels.{four_bytes}
 use Rattle.bitmap_rows.specs.Rows.{full_chroma}
 use Rattle.bitmap_rows.proofs.Inner.{argb_row, arranged_row, level_valid, refused_row, known_row}

@@ -1,6 +1,5 @@
 -- `write_rgb24_pixels`: each plane definition by its own pixels.
-use Rattle.std.proofs.Common.{rules, ◌≡◌, ◌*◌, ℕ, ap, ◌∙◌, true, false, [], get_or, refl, arith}
-use Rattle.bitmap_format.specs.declared.Rgb.{Rgb}
+use Rattle.std.proofs.Common.{rules, ◌≡◌, ap, ◌∙◌, true, false, [], get_or, refl, arith}
 use Rattle.bitmap_format.specs.declared.ColorPlaneDefinition.TheVariants.{Argb, AYCoCg}
 use Rattle.bitmap_format.specs.Colour.{rgb, rgb24, aycocg_colour}
 use Rattle.bitmap_format.specs.Planes.{subsampled}

@@ -1,5 +1,5 @@
 -- `write_subsampled_row`: the pairs, and the last pixel of an odd width.
-use Rattle.std.proofs.Common.{rules, ◌≡◌, ℕ, List, ◌+◌, ◌-◌, ◌*◌, ◌/◌, ◌≤◌, true, [], ◌++◌, length, get_or, ap, refl, ◌∙◌, arith}
+use Rattle.std.proofs.Common.{rules, ◌≡◌, ℕ, List, ◌+◌, ◌*◌, ◌/◌, true, [], ◌++◌, get_or, ap, refl, ◌∙◌, arith}
 use Rattle.bitmap_format.specs.declared.ColorPlaneDefinition.TheVariants.{AYCoCg}
 use Rattle.bitmap_format.specs.declared.Rgb.{Rgb}
 use Rattle.bitmap_format.specs.Colour.{rgb24, aycocg_colour}

@@ -1,5 +1,5 @@
 -- `ColorPlanes::row_samples`: `RowPlaces` of ImageLoop.antt bounds the indices.
-use Rattle.std.proofs.Common.{◌≡◌, Bool, ◌+◌, ◌*◌, length, drop, ap, ◌∙◌, arith}
+use Rattle.std.proofs.Common.{Bool, ◌+◌, ◌*◌, length, drop, ap, ◌∙◌, arith}
 use Rattle.rle_format.proofs.Slice.{suffix_drop, suffix_room}
 use Rattle.bitmap_format.specs.Planes.{subsampled, chroma_side_of}
 use Rattle.bitmap_image.proofs.ImageLoop.{row_places}
