@@ -1,3 +1,2 @@
 pub mod ColourOrBlack
-pub mod CheckedLevel
 pub mod Examples

@@ -12,13 +12,11 @@ pub struct LossLevel {
 }
 
 impl LossLevel {
-    ghost use Rattle.std.specs.Prelude.{◌||◌, ◌==◌, nat_lt, None, Some};
-    ghost use Rattle.rle_format.specs.Choice.{choose};
-    ghost use Rattle.bitmap_color.specs.CheckedLevel.{level_or_none};
+    ghost use Rattle.std.specs.Prelude.{true, ◌||◌, ◌==◌, nat_lt, MatchOption};
 
     // None for a level that refuses the picture (FORMAT 8.1, refusal 3).
     pub fn new(level: u8) -> Option<LossLevel>
-        ensures { level_or_none result ≡ choose (level == 0 || nat_lt 7 level) None (Some level) }
+        ensures { MatchOption result ((level == 0 || nat_lt 7 level) ≡ true) (λ known. known.level ≡ level) }
     {
         if level == 0 || 7 < level {
             return None;

@@ -26,7 +26,8 @@ use rows::write_pixel_rows;
 // Pictures up to this width have short arrays. To fill long ones takes about as long as to write a picture of 20 × 20 pixels.
 const NARROW_WIDTH: usize = 256;
 
-// Writes an image of four-byte pixels, with arrays of N bytes for two chroma rows.
+// Writes an image of four-byte pixels, with arrays of N bytes for two chroma rows. The image stays a slice beside the planes, with a fact on its
+// length: in a struct contracts would name it as `planes.old.image` and `planes.new.image`, which is no plainer.
 fn write_with_arrays<const N: usize>(
     layout: PixelLayout,
     shown: ShownPlanes<'_, '_>,

@@ -6,7 +6,7 @@ use mathlib.Core.List.{List, [], ◌∷◌}
 use native.Mathlib.Omega.{arith}
 use lib.ListN.{length, get_or}
 use borrow.Author.Tests.{ne_eqb, le-ltb}
-use Rattle.std.specs.Prelude.{Some, None, ◌==◌, nat_lt}
+use Rattle.std.specs.Prelude.{◌==◌, nat_lt}
 use Rattle.rle_format.specs.Choice.{choose}
 use Rattle.rle_format.specs.Slice.{overwrite}
 use Rattle.pixel_format.specs.declared.PixelLayout.{PixelLayout}
@@ -20,7 +20,7 @@ use Rattle.bitmap_format.specs.Planes.{subsampled, chroma_side_of}
 use Rattle.bitmap_format.specs.Image.{chroma_index}
 use Rattle.bitmap_format.specs.Picture.{is_loss_level_invalid_of}
 use Rattle.bitmap_format.specs.Pixels.{PixelForm, four_bytes, pixel_bytes}
-use Rattle.bitmap_color.proofs.Colour.{Checked, level_known, level_refused}
+use Rattle.bitmap_color.proofs.Colour.{level_allowed}
 use Rattle.bitmap_rows.specs.Rows.{pixel_at, row_pixels}
 use Rattle.bitmap_rows.specs.Inner.{if_level_valid, write_fitting_row, word_bytes, alpha_first_of, colour_flag, arranged, arranged_at, write_arranged}
 use Rattle.bitmap_rows.proofs.Rows.{concat_up_to_same}
@@ -52,16 +52,15 @@ module _ (form : PixelForm) (d : ColorPlaneDefinition) (flagged : Bool) (first s
     invalid = ap is_loss_level_invalid_of e
 
     -- a level that is refused
-    pub refused_row : Checked level None → dst ≡ write_fitting_row form d flagged first second third alpha width dst
-    refused_row c = sym (ap (λ (t : Bool). choose t dst (overwrite dst (pixels d))) (invalid ∙ level_refused level c))
+    pub refused_row : (level == 0 || nat_lt 7 level) ≡ true → dst ≡ write_fitting_row form d flagged first second third alpha width dst
+    refused_row c = sym (ap (λ (t : Bool). choose t dst (overwrite dst (pixels d))) (invalid ∙ c))
 
     -- and one that is known
-    pub known_row : (known : ℕ) → Checked level (Some known) → overwrite dst (pixels (AYCoCg known s)) ≡ write_fitting_row form d flagged first second third alpha width dst
-    known_row known c =
-        let k = level_known level known c in
-        ap (λ (n : ℕ). overwrite dst (pixels (AYCoCg n s))) k.0
+    pub known_row : (known : ℕ) → 1 ≤ known → known ≤ 7 → known ≡ level → overwrite dst (pixels (AYCoCg known s)) ≡ write_fitting_row form d flagged first second third alpha width dst
+    known_row known low high k =
+        ap (λ (n : ℕ). overwrite dst (pixels (AYCoCg n s))) k
         ∙ ap (λ (k : ColorPlaneDefinition). overwrite dst (pixels k)) (sym e)
-        ∙ sym (ap (λ (t : Bool). choose t dst (overwrite dst (pixels d))) (invalid ∙ k.1))
+        ∙ sym (ap (λ (t : Bool). choose t dst (overwrite dst (pixels d))) (invalid ∙ level_allowed known level low high k))
 
 -- ---- four-byte pixels
 

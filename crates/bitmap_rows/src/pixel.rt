@@ -90,7 +90,8 @@ impl Pixel for Quad {
     }
 }
 
-// Writes n pixels, each found from its index.
+// Writes n pixels, each found from its index. Here and in the functions that call it dst stays a slice beside the row, with a fact on its length: in
+// a struct contracts would name it as `row.old.dst` and `row.new.dst`, which is no plainer.
 pub(crate) fn write_each<P: Pixel, F: Fn(usize) -> P>(dst: &mut [u8], n: usize, pixel: F)
     requires callable { (i : ℕ) → i < n → F.pre pixel i }
     requires room { P.SIZE * n ≤ length dst.old }

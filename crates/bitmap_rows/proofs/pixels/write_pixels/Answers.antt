@@ -27,4 +27,4 @@ returns-in-Some c =
     ∙ sym (level_valid level.level false _ a.dst.now level.allowed.0 level.allowed.1)
     ∙ arranged_row a.layout a.rule.flagged level.level s.first.now s.second.now s.third.now a.pixels.alpha.now n a.dst.now _ _ c.alpha_first.ensures c.color_flag-flag.ensures
     ∙ level_valid level.level false _ a.dst.now level.allowed.0 level.allowed.1
-    ∙ known_row form (full_chroma a.rule.definition) a.rule.flagged s.first.now s.second.now s.third.now a.pixels.alpha.now n a.dst.now _ false (ap full_chroma c.in-AYCoCg.is) level.level c.in-Some.ensures
+    ∙ known_row form (full_chroma a.rule.definition) a.rule.flagged s.first.now s.second.now s.third.now a.pixels.alpha.now n a.dst.now _ false (ap full_chroma c.in-AYCoCg.is) level.level level.allowed.0 level.allowed.1 c.in-Some.ensures

@@ -41,7 +41,7 @@ write_subsampled_row-requires c = (c.requires.0 ∙ ap subsampled c.in-AYCoCg.is
 pub returns-then-use_chroma_subsampling : goal.returns-then-use_chroma_subsampling
 returns-then-use_chroma_subsampling c =
     c.write_subsampled_row.ensures
-    ∙ known_row three_bytes c.args.rule.definition c.args.rule.flagged _ _ _ [] _ c.args.dst.now c.in-AYCoCg.color_loss_level true (c.in-AYCoCg.is ∙ ap (AYCoCg c.in-AYCoCg.color_loss_level) c.if-use_chroma_subsampling.true) c.in-Some.level.level c.in-Some.ensures
+    ∙ known_row three_bytes c.args.rule.definition c.args.rule.flagged _ _ _ [] _ c.args.dst.now c.in-AYCoCg.color_loss_level true (c.in-AYCoCg.is ∙ ap (AYCoCg c.in-AYCoCg.color_loss_level) c.if-use_chroma_subsampling.true) c.in-Some.level.level c.in-Some.level.allowed.0 c.in-Some.level.allowed.1 c.in-Some.ensures
 
 pub returns-else-use_chroma_subsampling : goal.returns-else-use_chroma_subsampling
 returns-else-use_chroma_subsampling c =
@@ -51,4 +51,4 @@ returns-else-use_chroma_subsampling c =
     c.write_each-in-AYCoCg.ensures (pixel_at three_bytes (AYCoCg level false) c.args.rule.flagged s.first.now s.second.now s.third.now []) (λ i. refl) (λ i p l k.
     let e : p ≡ aycocg_colour c.args.rule.flagged level (get_or s.first.now i 0) (get_or s.second.now i 0) (get_or s.third.now i 0) = search rules in
     aycocg_pixel c.args.rule.flagged level false s.first.now s.second.now s.third.now i i p (column_counted i) e)
-    ∙ known_row three_bytes c.args.rule.definition c.args.rule.flagged _ _ _ [] _ c.args.dst.now c.in-AYCoCg.color_loss_level false (c.in-AYCoCg.is ∙ ap (AYCoCg c.in-AYCoCg.color_loss_level) c.if-use_chroma_subsampling.false) level c.in-Some.ensures
+    ∙ known_row three_bytes c.args.rule.definition c.args.rule.flagged _ _ _ [] _ c.args.dst.now c.in-AYCoCg.color_loss_level false (c.in-AYCoCg.is ∙ ap (AYCoCg c.in-AYCoCg.color_loss_level) c.if-use_chroma_subsampling.false) level c.in-Some.level.allowed.0 c.in-Some.level.allowed.1 c.in-Some.ensures
