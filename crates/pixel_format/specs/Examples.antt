@@ -6,7 +6,7 @@ use Rattle.pixel_format.specs.declared.Channel.TheVariants.{R, G, B, A}
 use Rattle.pixel_format.specs.declared.Layout.{Layout}
 use Rattle.pixel_format.specs.declared.Layout.TheVariants.{Planar, Pixels}
 use Rattle.pixel_format.specs.declared.PixelLayout.TheVariants.{BgrA, RgbA, ARgb, ABgr}
-use Rattle.pixel_format.specs.Channel.{samples_of}
+use Rattle.pixel_format.specs.Samples.{samples_in}
 
 -- a slice with its layout, and the samples of a channel in it
 pub record Example : Type 0 where
@@ -18,9 +18,9 @@ pub record Example : Type 0 where
 abbrev pub example : (layout : Layout) (channel : Channel) (slice samples : List ℕ) → Example
 example layout channel slice samples = record { layout = layout; channel = channel; slice = slice; samples = samples }
 
--- what the definitions compute
+-- what the definitions compute, the slice as the code has it
 abbrev pub computed : Example → List ℕ
-computed e = samples_of e.layout e.channel e.slice
+computed e = samples_in (record { src = record { ref_ptr = (0, 0); now = e.slice }; layout = e.layout; channel = e.channel })
 
 -- what is expected
 abbrev pub expected : Example → List ℕ
