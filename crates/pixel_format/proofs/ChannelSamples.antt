@@ -71,9 +71,6 @@ module _ (l : Layout) (c : Channel) (s : List ℕ) where
   pub samples_of_pixels : (p : PixelLayout) → l ≡ Pixels p → channel (channel_offsets p) c s ≡ samples_of l c s
   samples_of_pixels p e = ap (λ (k : Layout). samples_of k c s) (sym e)
 
-  pub planar_count : l ≡ Planar → length s ≡ length (samples_of l c s)
-  planar_count e = ap length (samples_of_planar e)
-
   pub pixels_count : (p : PixelLayout) → l ≡ Pixels p → length s / 4 ≡ length (samples_of l c s)
   pixels_count p e =
       ap (λ (k : ℕ). length s / k) (sym (layouts_rearrange p).four_bytes) ∙ sym (length_channel (channel_offsets p) c s) ∙ ap length (samples_of_pixels p e)
