@@ -18,20 +18,28 @@ pub trait Replay {
     fn replay(&self, line: &[u8]) -> LineResult;
 }
 
-// Replays the cases of the file at `path`, and prints those that did not give the stored result, and the tally. If the file cannot be loaded, it
-// prints why.
-pub fn replay_file<R: Files + Print>(rt: &R, path: &[u8], kind: &impl Replay) {
+// Replays the cases of the file at `path`, prints those that did not give the stored result, and the tally, and returns how many bytes the file has.
+// If the file cannot be loaded, it prints why, and returns 0.
+pub fn replay_file<R: Files + Print>(rt: &R, path: &[u8], kind: &impl Replay) -> usize
+    ensures { result ≤ 1048576 }
+{
     let report = Report::new(rt, path);
     let mut buffer = [0u8; BUFFER_SIZE];
     match load(rt, path, &mut buffer) {
-        Ok(length) => replay_text(&buffer[..length], kind, report),
-        Err(why) => report.fail(why),
+        Ok(length) => {
+            replay_text(&buffer[..length], kind, report);
+            length
+        }
+        Err(why) => {
+            report.fail(why);
+            0
+        }
     }
 }
 
 // Loads the file at `path` into the first bytes of the buffer, and returns how many they are, or why it cannot be loaded.
 fn load(rt: &impl Files, path: &[u8], buffer: &mut [u8; BUFFER_SIZE]) -> Result<usize, &'static str>
-    ensures { IfOk result (λ size. size ≤ length buffer.new) }
+    ensures { IfOk result (λ size. size ≤ 1048576) }
 {
     let mut file = open(rt, path).ok_or("cannot be opened")?;
     let size = read_full(&mut file, buffer);
