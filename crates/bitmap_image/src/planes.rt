@@ -39,7 +39,7 @@ fn step_behind(subsampling: bool, width: usize, row: usize) -> usize
 
 impl<'a> ColorPlanes<'a> {
     ghost use Rattle.std.specs.Prelude.{◌+◌, ◌*◌, ◌<◌, drop};
-    ghost use Rattle.bitmap_format.specs.Planes.{subsampled, chroma_side_of};
+    ghost use Rattle.bitmap_format.specs.Planes.{subsampled};
     ghost use Rattle.bitmap_image.specs.Rows.{chroma_width_of, chroma_size_of};
 
     // The rows of the planes for a row of the picture whose chroma row starts at `second`, in the second plane.
