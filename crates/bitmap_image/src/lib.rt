@@ -27,7 +27,9 @@ use rows::write_pixel_rows;
 const NARROW_WIDTH: usize = 256;
 
 // Writes an image of four-byte pixels, with arrays of N bytes for two chroma rows. The image stays a slice beside the planes, with a fact on its
-// length: in a struct contracts would name it as `planes.old.image` and `planes.new.image`, which is no plainer.
+// length: in a struct contracts would name it as `planes.old.image` and `planes.new.image`, which is no plainer. Not inlined: a frame this large
+// behind the tests of its caller is not safe (examples/check-probes).
+#[inline(never)]
 fn write_with_arrays<const N: usize>(
     layout: PixelLayout,
     shown: ShownPlanes<'_, '_>,
@@ -57,6 +59,8 @@ fn write_with_alpha(layout: PixelLayout, shown: ShownPlanes<'_, '_>, image: &mut
 }
 
 // Writes an image of four-byte pixels without an alpha plane: all rows have the same row of alpha, which is 255. It is an array of N bytes.
+// Not inlined, as `write_with_arrays`.
+#[inline(never)]
 fn write_opaque<const N: usize>(layout: PixelLayout, colors: ColorPlanes<'_>, image: &mut [u8])
     requires { (colors.picture.header.use_alpha ≡ false) × (colors.picture.width ≤ N) × (N ≤ 8192) × (image_size_of (four_bytes (channel_offsets layout)) colors.picture.width colors.picture.height ≤ length image.old) }
     ensures { (alpha : _) → image.new ≡ write_rows (row_size (four_bytes (channel_offsets layout)) colors.entry.picture.width) (image_row (four_bytes (channel_offsets layout)) colors.entry.picture.header.color_plane_definition colors.entry.picture.header.use_alpha colors.entry.picture.width colors.entry.picture.height colors.entry.planes.now alpha) colors.entry.picture.height image.old }

@@ -54,7 +54,8 @@ fn decode(src: &[u8], dst: &mut [u8], sides: ValidSides, codes: &mut [u8]) -> Re
     Ok(at)
 }
 
-// Does so by way of an array of CODES values.
+// Does so by way of an array of CODES values. Not inlined: a frame this large behind the tests of its caller is not safe (examples/check-probes).
+#[inline(never)]
 fn decode_with<const CODES: usize>(
     src: &[u8],
     dst: &mut [u8],

@@ -65,8 +65,8 @@ fn encode_rows(
     Ok(to)
 }
 
-// Packs a plane by way of arrays of these lengths.
-// Not inlined: clang's probe of a stack frame this large takes r11, in which a caller that tests its arguments first may hold a refusal.
+// Packs a plane by way of arrays of these lengths. Not inlined: clang's probe of a stack frame this large takes r11, in which a caller that tests its
+// arguments first may hold a refusal (examples/check-probes).
 #[inline(never)]
 fn encode<const ABOVE: usize, const CODES: usize, const PACKED: usize>(
     samples: Samples,
