@@ -6,17 +6,15 @@ use Prim.Native.Nat.{ℕ, ◌+◌, ◌*◌, ◌≤◌, ◌<◌}
 use native.Mathlib.Omega.{arith}
 use lib.ListN.{length, take, length-append}
 use lib.Seq.{length-take-le}
-use lib.Dec.{ltb, eqb}
+use lib.Dec.{ltb}
 use borrow.Author.Tests.{lt-ltb, le-ltb, ltb-false}
 use Rattle.rle_format.specs.Answer.{counted, refused, refuse}
 use Rattle.rle_format.specs.Pack.{write_segments}
-use Rattle.rle_format.specs.Choice.{choose}
-use Rattle.rle_format.specs.Sides.{check_sides_of, AllowedSides}
-use Rattle.rle_format.proofs.Answer.{refused_not_counted}
-use Rattle.rle_format.proofs.Sides.{zero_width, zero_height, too_wide, too_high, sides_allowed, allowed_sides, check_sides_passes}
+use Rattle.rle_format.specs.Sides.{AllowedSides}
+use Rattle.rle_format.proofs.Sides.{allowed_sides}
 use Rattle.bitmap_format.specs.Checks.{check, first_refusal_of}
 use Rattle.bitmap_format.specs.PackPicture.{picture_segments, raw_samples, raw_body, write_all_or_nothing, any_short, pack_checks, check_pack, pack_body, pack_picture}
-use Rattle.bitmap_format.proofs.Checks.{check_passes, no_checks, sides_passed, check_passed}
+use Rattle.bitmap_format.proofs.Checks.{no_checks, sides_passed, check_passed}
 
 -- ---- sources that are long enough
 
@@ -72,66 +70,6 @@ module _ (w h : ℕ) (planes : List (List ℕ)) where
       let j = check_passed (check 11 (any_short (w * h) planes)) [] (counted (w * h)) n i.1 in
       let last : counted (w * h) ≡ counted n = sym (no_checks (counted (w * h))) ∙ j.1 in
       record { sides = allowed_sides w h i.0; long = j.0; count = cc }
-
--- the checks of the sides alone
-module _ (w h : ℕ) where
-  check_pack_no_sources : check_pack w h [] ≡ check_sides_of refused w h (counted (w * h))
-  unfolding check_pack any_short
-  check_pack_no_sources =
-      ap (check_sides_of refused w h) (check_passes (check 11 false) [] (counted (w * h)) refl ∙ no_checks (counted (w * h)))
-
-  pub check_pack_zero_width : w ≡ 0 → refused 1 ≡ check_pack w h []
-  check_pack_zero_width e = sym (check_pack_no_sources ∙ zero_width refused w h (counted (w * h)) e)
-
-  module _ (hw : w ≡ 0 → ⊥) where
-    pub check_pack_zero_height : h ≡ 0 → refused 1 ≡ check_pack w h []
-    check_pack_zero_height e = sym (check_pack_no_sources ∙ zero_height refused w h (counted (w * h)) hw e)
-
-    module _ (hh : h ≡ 0 → ⊥) where
-      pub check_pack_too_wide : 8192 < w → refused 2 ≡ check_pack w h []
-      check_pack_too_wide l = sym (check_pack_no_sources ∙ too_wide refused w h (counted (w * h)) hw hh l)
-
-      module _ (lw : w ≤ 8192) where
-        pub check_pack_too_high : 8192 < h → refused 2 ≡ check_pack w h []
-        check_pack_too_high l = sym (check_pack_no_sources ∙ too_high refused w h (counted (w * h)) hw hh lw l)
-
-        pub check_pack_sides : h ≤ 8192 → counted (w * h) ≡ check_pack w h []
-        check_pack_sides l = sym (check_pack_no_sources ∙ sides_allowed refused w h (counted (w * h)) hw hh lw l)
-
--- the checks with one more source
-module _ (w h : ℕ) (p : List ℕ) (planes : List (List ℕ)) where
-  -- what was refused stays refused
-  pub check_pack_refused : (k : ℕ) → check_pack w h planes ≡ refused k → check_pack w h (p ∷ planes) ≡ refused k
-  unfolding check_pack check_sides_of first_refusal_of any_short
-  check_pack_refused k e = go (eqb w 0 || eqb h 0) (ltb 8192 w || ltb 8192 h) (any_short (w * h) planes) (ltb (length p) (w * h)) e
-    where
-      go : (s t u v : Bool) → choose s (refused 1) (choose t (refused 2) (choose u (refused 11) (counted (w * h)))) ≡ refused k
-          → choose s (refused 1) (choose t (refused 2) (choose (v || u) (refused 11) (counted (w * h)))) ≡ refused k
-      go true t u v e = e
-      go false true u v e = e
-      go false false true true e = e
-      go false false true false e = e
-      go false false false v e = refused_not_counted (sym e)
-
-  module _ (n : ℕ) (e : check_pack w h planes ≡ counted n) where
-    -- a short one is refused, a long one is not
-    check_pack_source : (b : Bool) → ltb (length p) n ≡ b → check_pack w h (p ∷ planes) ≡ choose b (refused 11) (counted n)
-    unfolding check_pack any_short first_refusal_of
-    check_pack_source b t =
-        let i = pack_checked w h planes n e in
-        check_sides_passes refused w h _ i.sides
-        ∙ (λ j. choose ((ap (ltb (length p)) (sym i.count) ∙ t) j || i.long j) (refused 11) (counted (sym i.count j)))
-        ∙ same b
-      where
-        same : (b : Bool) → choose (b || false) (refused 11) (counted n) ≡ choose b (refused 11) (counted n)
-        same true = refl
-        same false = refl
-
-    pub check_pack_short : length p < n → check_pack w h (p ∷ planes) ≡ refused 11
-    check_pack_short l = check_pack_source true (lt-ltb (length p) n l)
-
-    pub check_pack_long_enough : n ≤ length p → check_pack w h (p ∷ planes) ≡ counted n
-    check_pack_long_enough l = check_pack_source false (le-ltb (length p) n l)
 
 -- ---- a picture that passes them
 

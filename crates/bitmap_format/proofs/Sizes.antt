@@ -81,17 +81,6 @@ min_body_size_planes header w h = go header.use_alpha
     go true = omega (arith, min_plane_size_offset header.enable_rle_compression w h 0)
     go false = omega arith
 
--- the same by the sides
-pub min_body_size_sides : (header : BitmapStreamHeader) (w h : ℕ)
-    → min_body_size_of header w h
-    ≡ choose header.use_alpha (min_size header.enable_rle_compression w h) 0
-    + (min_size header.enable_rle_compression w h
-    + 2
-    * min_size header.enable_rle_compression (chroma_side_of (subsampled header.color_plane_definition) w) (chroma_side_of (subsampled header.color_plane_definition) h))
-min_body_size_sides header w h =
-    min_body_size_planes header w h
-    ∙ ap (λ (n : ℕ). choose header.use_alpha (min_size header.enable_rle_compression w h) 0 + n) (colour_sum_sides header.enable_rle_compression (subsampled header.color_plane_definition) w h)
-
 -- a raw picture needs no work area
 pub work_size_raw : (form : PixelForm) (header : BitmapStreamHeader) (w h : ℕ) → header.enable_rle_compression ≡ false → work_size_of form header w h ≡ 0
 unfolding work_size_of
@@ -102,12 +91,6 @@ pub work_size_rle : (form : PixelForm) (header : BitmapStreamHeader) (w h : ℕ)
     → work_size_of form header w h ≡ shown_alpha_size_of form header.use_alpha w h + colour_planes_size header w h
 unfolding work_size_of
 work_size_rle form header w h e = choose_true _ _ _ e
-
-pub colour_planes_size_sides : (header : BitmapStreamHeader) (w h : ℕ)
-    → colour_planes_size header w h
-    ≡ w * h + 2 * (chroma_side_of (subsampled header.color_plane_definition) w * chroma_side_of (subsampled header.color_plane_definition) h)
-unfolding sum_over colour_planes first_plane second_plane third_plane
-colour_planes_size_sides header w h = omega arith
 
 -- ---- what the code adds up
 

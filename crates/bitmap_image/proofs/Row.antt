@@ -18,17 +18,6 @@ use Rattle.bitmap_rows.specs.Rows.{row_pixels, write_row_of, full_chroma, double
 use Rattle.bitmap_rows.proofs.Rows.{full_row_written, doubled_written, full_chroma_full, doubled_row}
 use Rattle.bitmap_image.specs.Rows.{array_width}
 
--- the samples that an array needs
-pub array_none : (d : ColorPlaneDefinition) (width : ℕ) → subsampled d ≡ false → array_width d width ≡ 0
-array_none d width e = ap (λ (t : Bool). choose t width 0) e
-
-pub array_most : (d : ColorPlaneDefinition) (width : ℕ) → array_width d width ≤ width
-array_most d width = go (subsampled d)
-  where
-    go : (t : Bool) → choose t width 0 ≤ width
-    go true = omega arith
-    go false = omega arith
-
 -- the slices of a row, as write_row requires them
 pub record RowRoom (d : ColorPlaneDefinition) (first second third alpha : List ℕ) (width : ℕ) (dst co cg : List ℕ) : Type 0 where
   pub valid : is_loss_level_invalid_of d ≡ false

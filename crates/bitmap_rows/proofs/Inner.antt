@@ -4,7 +4,7 @@ use mathlib.Core.Bool.{Bool, true, false, ◌||◌}
 use mathlib.Core.Path.{◌≡◌, refl, sym, ap, ◌∙◌}
 use mathlib.Core.List.{List, [], ◌∷◌}
 use native.Mathlib.Omega.{arith}
-use lib.ListN.{length, get_or}
+use lib.ListN.{get_or}
 use borrow.Author.Tests.{ne_eqb, le-ltb}
 use Rattle.std.specs.Prelude.{◌==◌, nat_lt}
 use Rattle.rle_format.specs.Choice.{choose}
@@ -12,7 +12,6 @@ use Rattle.rle_format.specs.Slice.{overwrite}
 use Rattle.pixel_format.specs.declared.PixelLayout.{PixelLayout}
 use Rattle.pixel_format.specs.declared.PixelLayout.TheVariants.{BgrA, RgbA, ARgb, ABgr}
 use Rattle.pixel_format.specs.Channel.{channel_offsets}
-use Rattle.bitmap_format.specs.declared.Rgb.{Rgb}
 use Rattle.bitmap_format.specs.declared.ColorPlaneDefinition.{ColorPlaneDefinition}
 use Rattle.bitmap_format.specs.declared.ColorPlaneDefinition.TheVariants.{Argb, AYCoCg}
 use Rattle.bitmap_format.specs.Colour.{aycocg_colour}
@@ -76,10 +75,6 @@ word_bytes_lem a b c d ha hb hc hd =
     let e₂ : (c + d * 256) % 256 ≡ c = omega arith in
     let e₃ : d % 256 ≡ d = omega arith in
     λ i. e₀ i ∷ (ap (λ (n : ℕ). n % 256) q₁ ∙ e₁) i ∷ (ap (λ (n : ℕ). n % 256) q₂ ∙ e₂) i ∷ (ap (λ (n : ℕ). n % 256) q₃ ∙ e₃) i ∷ []
-
-pub length_arranged : (leading : Bool) (c : Rgb) (alpha : ℕ) → length (arranged leading c alpha) ≡ 4
-length_arranged true c alpha = refl
-length_arranged false c alpha = refl
 
 -- a pixel by the two answers of its layout
 arranged_pixel : (layout : PixelLayout) (flagged : Bool) (level y co cg alpha : ℕ)

@@ -2,11 +2,11 @@
 use mathlib.Core.Path.{◌≡◌, refl, sym, ap, ◌∙◌}
 use mathlib.Core.Bool.{Bool, true, false}
 use mathlib.Core.List.{List, [], ◌∷◌, ◌++◌}
-use Prim.Native.Nat.{ℕ, ◌-◌, ◌≤◌}
+use Prim.Native.Nat.{ℕ, ◌-◌}
 use native.Mathlib.Omega.{arith}
 use lib.ListN.{length, take, length-append}
 use lib.Seq.{take-append_seam}
-use Rattle.std.specs.Prelude.{Option, Some, None, Result, Ok, Err, ok_or, slice_get, MatchOption}
+use Rattle.std.specs.Prelude.{Option, Some, None, Ok, Err, ok_or, slice_get, MatchOption}
 use Rattle.std.specs.List.{IsFirstAndRest, IsLastAndRest}
 use Rattle.std.specs.Borrow.{Bor}
 use Rattle.rle_format.specs.declared.Refusal.{Refusal}

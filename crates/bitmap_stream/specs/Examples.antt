@@ -1,7 +1,6 @@
 -- Examples of what the code returns for a split stream, worked out by hand: one constant list, what the definitions compute for each, and what is
 -- expected. proofs/Examples.antt has the one proof.
 use Rattle.std.specs.Prelude.{ℕ, true, false, List, [], ◌∷◌, Result, Ok, Err}
-use Rattle.std.specs.Borrow.{Bor}
 use Rattle.rle_format.specs.declared.Refusal.{Refusal}
 use Rattle.rle_format.specs.declared.Refusal.TheVariants.{EmptyStream, MissingPad}
 use Rattle.bitmap_format.specs.declared.BitmapStreamHeader.{BitmapStreamHeader}

@@ -1,6 +1,6 @@
 -- What the number of a layout means, and what a call does by it. Assumes nothing.
 use mathlib.Core.Path.{◌≡◌, refl, sym, ap, ◌∙◌}
-use mathlib.Core.List.{List, [], ◌∷◌}
+use mathlib.Core.List.{List, []}
 use mathlib.Core.Bool.{Bool, true, false, ◌||◌}
 use Prim.Native.Nat.{ℕ, ◌<◌}
 use native.Mathlib.Omega.{arith}
@@ -14,7 +14,6 @@ use Rattle.rle_format.specs.Answer.{Answer, refused, number}
 use Rattle.rle_format.specs.Choice.{choose}
 use Rattle.rle_format.specs.Sides.{check_sides_of}
 use Rattle.bitmap_format.specs.declared.BitmapStreamHeader.{BitmapStreamHeader}
-use Rattle.bitmap_format.specs.HeaderByte.{header_from_byte_of}
 use Rattle.bitmap_format.specs.Stream as format
 use Rattle.bitmap_format.specs.Stream.{split_rest, split_stream_of, unpack_split, unpack_stream_by}
 use Rattle.bitmap_stream.specs.declared.Split.{Split}
@@ -75,13 +74,3 @@ module _ (w h : ℕ) (stream : List ℕ) where
   pub stream_split : (s : Split) → split_of (Ok s) ≡ split_stream_of stream → unknown_layout w h ≡ unknown_layout_of_stream w h stream
   unfolding unpack_stream_by unpack_split answer_of
   stream_split s e = ap answer_of e
-
-pub unknown_stream_fits : (w h : ℕ) (stream : List ℕ) → SFits w64 (c_number (unknown_layout_of_stream w h stream))
-unfolding unpack_stream_by unpack_split split_stream_of split_rest
-unknown_stream_fits w h [] = refusal_fits 13 (omega arith)
-unknown_stream_fits w h (byte ∷ rest) = go (header_from_byte_of byte).enable_rle_compression rest
-  where
-    go : (rle : Bool) (rest : List ℕ) → SFits w64 (c_number (unpack_split (λ (header : BitmapStreamHeader) (body : List ℕ). c_unpack_pixels None header w h body [] []) [] [] (split_rest (header_from_byte_of byte) rle rest)).answer)
-    go true rest = unknown_fits w h
-    go false [] = refusal_fits 14 (omega arith)
-    go false (b ∷ rest) = unknown_fits w h

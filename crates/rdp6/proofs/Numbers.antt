@@ -5,14 +5,13 @@ use mathlib.Core.List.{List}
 use Prim.Native.Nat.{ℕ, zero, suc, ◌≤◌, ◌<◌}
 use lib.ListN.{length}
 use native.Mathlib.Omega.{arith}
-use lib.IntN.{ℤ, pos, neg_ℤ, ◌-ℤ◌, +ℤ_idl}
-use mir.Facts.{to_z-of_z, to_z_pos}
+use lib.IntN.{ℤ, pos, neg_ℤ}
+use mir.Facts.{to_z-of_z}
 use mir.Val.{SFits, to_z, of_z}
 use mir.Syntax.{w64}
-use Rattle.std.specs.Prelude.{Result, Ok, Err}
+use Rattle.std.specs.Prelude.{Result, Ok}
 use Rattle.rle_format.specs.declared.Refusal.{Refusal}
-use Rattle.rle_format.specs.Answer.{Answer, counted, refused, number, to_answer}
-use Rattle.rle_format.proofs.Answer.{number_max}
+use Rattle.rle_format.specs.Answer.{Answer, counted, refused, to_answer}
 use Rattle.bitmap_format.specs.declared.BitmapStreamHeader.{BitmapStreamHeader}
 use Rattle.bitmap_format.specs.declared.Encoded.{Encoded}
 use Rattle.bitmap_format.specs.PackPicture.{pack_picture, with_header, encoded_to_answer, drop_header}
@@ -33,16 +32,6 @@ pub read_back : (n : ℤ) (a b : Answer) → SFits w64 (c_number a) → n ≡ c_
 read_back n a b f e is =
     let g : SFits w64 n = rw e f in
     to_z-of_z g ∙ e ∙ ap c_number is
-
--- what the code computes of a refusal's number n, a byte that it has widened
-pub negated_number : (n r : ℕ) → n ≡ r → r ≤ 255 → pos 0 -ℤ to_z w64 n ≡ neg_ℤ (pos r)
-negated_number n r e h =
-    let z : to_z w64 n ≡ pos n = to_z_pos w64 (omega arith) in
-    ap (λ (k : ℤ). pos 0 -ℤ k) z ∙ +ℤ_idl (neg_ℤ (pos n)) ∙ ap (λ (k : ℕ). neg_ℤ (pos k)) e
-
-pub answer_fits : (a : Result ℕ Refusal) → ((n : ℕ) → a ≡ Ok n → n < 9223372036854775808) → SFits w64 (c_number (to_answer a))
-answer_fits (Ok n) h = count_fits n (h n refl)
-answer_fits (Err r) h = refusal_fits (number r) (number_max r)
 
 -- ---- the answer of packing a picture
 

@@ -5,7 +5,7 @@ use mathlib.Core.List.{List, [], ◌∷◌, ◌++◌, append_assoc, append-nil}
 use native.Mathlib.Nat.{add-zero, zero-add, suc-add, add_assoc}
 use native.Mathlib.Numerals.{add-one}
 use native.Mathlib.Omega.{arith}
-use lib.ListN.{length, take, drop, set, get_or, replicate, length-append, length-take, length-drop, length-replicate, take-append-drop, replicate-append-replicate, get_or-append, drop_of_length-le}
+use lib.ListN.{length, take, drop, set, get_or, length-append, length-take, length-drop, take-append-drop, get_or-append, drop_of_length-le}
 use lib.Seq.{set_split, take_at, drop_at, drop-drop, take-suc, length-take-le, get_or-drop, get_or-take, take_all, take-nil, take-add, drop-append-add}
 use Rattle.rle_format.specs.Slice.{overwrite, write_at}
 
@@ -70,21 +70,6 @@ write_at_snoc d at vs v h =
 pub copied_overwrite : (d s now : List ℕ) → now ≡ take (length s) s ++ drop (length s) d → now ≡ overwrite d s
 unfolding overwrite
 copied_overwrite d s now e = e ∙ ap (λ (l : List ℕ). l ++ drop (length s) d) (take_all (length s) s (omega arith))
-
--- an iteration of the fill
-pub fill_step : (d now : List ℕ) (at v j : ℕ) → now ≡ write_at d at (replicate j v) → at + j < length d → set now (at + j) v ≡ write_at d at (replicate (j + 1) v)
-fill_step d now at v j e hd =
-    let n : length (replicate j v) ≡ j = length-replicate j v in
-    let room : at + length (replicate j v) < length d = rw n hd in
-    (λ i. set (e i) (at + sym n i) v)
-    ∙ write_at_snoc d at (replicate j v) v room
-    ∙ ap (write_at d at) (replicate-append-replicate j 1 v)
-
--- two writes, the second right after the first
-pub write_at-append : (d one two xs ys : List ℕ) (at n : ℕ) → length xs ≡ n → at + n ≤ length d → one ≡ write_at d at xs → two ≡ write_at one (at + n) ys
-    → two ≡ write_at d at (xs ++ ys)
-write_at-append d one two xs ys at n l fits e₁ e₂ =
-    e₂ ∙ (λ i. write_at (e₁ i) (at + sym l i) ys) ∙ write_at-write_at d at xs (omega arith) ys
 
 -- ---- reads of what a write left
 
@@ -200,17 +185,6 @@ copy_step d now s from at i to v e p h k is =
     ∙ ap (write_at d at) (sym (take-suc (drop from s) i 0 (omega arith)))
     ∙ ap (λ (m : ℕ). write_at d at (take m (drop from s))) (sym (add-one i))
 
--- more bytes, behind those that were copied before
-pub overwrite_part : (d now next s : List ℕ) (from i k : ℕ) → from + i ≤ length s → now ≡ overwrite d (take i (drop from s)) → next ≡ write_at now i (take k (drop (from + i) s))
-    → next ≡ overwrite d (take (i + k) (drop from s))
-overwrite_part d now next s from i k h e₁ e₂ =
-    let left = length-drop from s in
-    let n : length (take i (drop from s)) ≡ i = length-take-le i (drop from s) (omega arith) in
-    e₂
-    ∙ (λ j. write_at (e₁ j) i (take k (sym (drop-drop i from s) j)))
-    ∙ overwrite_append d (take i (drop from s)) (take k (drop i (drop from s))) i n
-    ∙ ap (overwrite d) (sym (take-add i k (drop from s)))
-
 -- four to index `at` on, which were all read before the first was written
 pub write_four : (d s : List ℕ) (from at v₀ v₁ v₂ v₃ : ℕ) → from + 4 ≤ length s → at + 4 ≤ length d
     → v₀ ≡ get_or s from 0 → v₁ ≡ get_or s (from + 1) 0 → v₂ ≡ get_or s (from + 2) 0 → v₃ ≡ get_or s (from + 3) 0
@@ -221,14 +195,3 @@ write_four d s from at v₀ v₁ v₂ v₃ h k e₀ e₁ e₂ e₃ =
     let two = copy_step d _ s from at 1 (at + 1) v₁ one refl (omega arith) (omega arith) e₁ in
     let three = copy_step d _ s from at 2 (at + 2) v₂ two refl (omega arith) (omega arith) e₂ in
     copy_step d _ s from at 3 (at + 3) v₃ three refl (omega arith) (omega arith) e₃
-
--- p, k bytes of s, copied to an array of k bytes, which is then q, and from there to d from `at` on. Each copy is to the start of a slice, and
--- leaves what is behind it
-pub copied_through_array : (d s p q got left array : List ℕ) (from at k : ℕ) → from + k ≤ length s → length array ≡ k → p ≡ take k (drop from s)
-    → got ≡ take (length p) p ++ drop (length p) array → q ≡ got → left ≡ take (length q) q ++ drop (length q) (suffix d at)
-    → replace_suffix d at left ≡ write_at d at (take k (drop from s))
-copied_through_array d s p q got left array from at k h n ep eg eq el =
-    let rest = length-drop from s in
-    let lp : length p ≡ k = ap length ep ∙ length-take-le k (drop from s) (omega arith) in
-    let whole : got ≡ p = copied_overwrite array p got eg ∙ overwrite_all array p (omega arith) in
-    suffix_overwrite d left q at (copied_overwrite (suffix d at) q left el) ∙ ap (write_at d at) (eq ∙ whole ∙ ep)

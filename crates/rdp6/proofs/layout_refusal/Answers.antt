@@ -1,5 +1,5 @@
 -- `layout_refusal`: what the sides are refused with, or else 3.
-use Rattle.std.proofs.Common.{sym, ◌∙◌}
+use Rattle.std.proofs.Common.{sym}
 use Rattle.rle_format.specs.Answer.{refused}
 use Rattle.rle_format.proofs.CheckedSides.{sides_refused, sides_pass}
 use Rattle.rdp6.specs.Layout.{unknown_layout}
