@@ -46,17 +46,6 @@ row_start src a from width h = record {
   whole = sym (rw (sub_self, sub-zero) (prepend_nil _));
 }
 
--- a row is continued
-pub row_continues : (src a : List ℕ) (from width at column last : ℕ) → from ≤ at → at ≤ length src → column ≤ width
-    → RowInvariant src a a (row_continued src a from width at column last) from width at column last
-row_continues src a from width at column last low most within = record {
-  low = low;
-  most = most;
-  within = within;
-  len = refl;
-  whole = refl;
-}
-
 module _ (src a codes : List ℕ) (o : Outcome) (from width at column last : ℕ) (fits : width ≤ length a) (h : RowInvariant src a codes o from width at column last) where
   -- the row stops here; behind the column the array may have changed
   row_ends : (now : List ℕ) → take column now ≡ take column codes → (r : Answer) → row_from (width - column) last (drop at src) ≡ stop r

@@ -2,11 +2,8 @@
 use Rattle.std.proofs.Common.{arith}
 use Rattle.rle_decoder.specs.Rows.{row_continued}
 use Rattle.rle_decoder.proofs.Segments.{found_segment}
-use Rattle.rle_decoder.proofs.RowLoop.{row_continues, row_full, row_refused, row_overruns, row_step}
+use Rattle.rle_decoder.proofs.RowLoop.{row_full, row_refused, row_overruns, row_step}
 use Rattle.rle_decoder.proofs.near_end.decode_last_segments.Goals as goal
-
-pub loop-row-init : goal.loop-row-init
-loop-row-init c = row_continues _ _ _ _ _ _ _ c.requires.0 c.requires.1 c.requires.2
 
 -- the next segment is refused
 pub returns-in_err-segment : goal.returns-in_err-segment
@@ -17,14 +14,6 @@ returns-in_err-segment c =
     let e = c.in_err-segment in
     row_refused a.src.now a.codes.now l.codes (row_continued a.src.now a.codes.now a.from a.width a.so_far.at a.so_far.column a.so_far.last) a.from a.width row.at row.column row.last (omega arith) l.invariant c.loop-row-test.true
     c.decompress_last_segment.new.codes e.ensures.values c.from_residual.result e.field-0.0 c.from_residual.ensures.1 e.ensures.stopped e.ensures.read
-
--- what the row reads lies within the slice
-pub after-requires : goal.after-requires
-after-requires c =
-    let row = c.loop-row.row in
-    let s = c.in_ok-segment in
-    let f = found_segment c.args.src.now row.at row.last s.segment.raw s.segment.run s.segment.last s.ensures.read in
-    (omega (arith, f.within), omega (arith, c.loop-row-test.true))
 
 -- it overruns the row
 pub returns-in_err-row : goal.returns-in_err-row
@@ -57,10 +46,6 @@ loop-row-preserved c =
     let next = row_step a.src.now a.codes.now l.codes (row_continued a.src.now a.codes.now a.from a.width a.so_far.at a.so_far.column a.so_far.last) a.from a.width row.at row.column row.last (omega arith) l.invariant c.loop-row-test.true
     d.new.codes s.ensures.values s.segment.raw s.segment.run s.segment.last s.ensures.read d.auto.codes (omega (arith, after.1, after.3)) in
     rw (after.0, after.1, after.2) next
-
--- what was read before is not less than where it began
-pub overflow_sub-result : goal.overflow_sub-result
-overflow_sub-result c = omega (arith, c.loop-row.invariant.low)
 
 pub returns : goal.returns
 returns c =

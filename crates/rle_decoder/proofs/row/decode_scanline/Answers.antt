@@ -19,14 +19,6 @@ returns-in_err-segment c =
     row_refused a.src.now a.codes.now l.codes (coded_row a.src.now a.from a.width) a.from a.width row.at row.column row.last (omega arith) l.invariant c.loop-row-test.true
     c.decompress_next_segment.new.codes e.ensures.values c.from_residual.result e.field-0.0 c.from_residual.ensures.1 e.ensures.stopped e.ensures.read
 
--- what the row reads lies within the slice
-pub after-requires : goal.after-requires
-after-requires c =
-    let row = c.loop-row.row in
-    let s = c.in_ok-segment in
-    let f = found_segment c.args.src.now row.at row.last s.segment.raw s.segment.run s.segment.last s.ensures.read in
-    (omega (arith, f.within), omega (arith, c.loop-row-test.true))
-
 -- it overruns the row
 pub returns-in_err-row : goal.returns-in_err-row
 returns-in_err-row c =
@@ -58,10 +50,6 @@ loop-row-preserved c =
     let next = row_step a.src.now a.codes.now l.codes (coded_row a.src.now a.from a.width) a.from a.width row.at row.column row.last (omega arith) l.invariant c.loop-row-test.true
     d.new.codes s.ensures.values s.segment.raw s.segment.run s.segment.last s.ensures.read d.auto.codes (omega (arith, after.1, after.3)) in
     rw (after.0, after.1, after.2) next
-
--- what was read before is not less than where it began
-pub overflow_sub-result : goal.overflow_sub-result
-overflow_sub-result c = omega (arith, c.loop-row.invariant.low)
 
 pub returns : goal.returns
 returns c =
