@@ -1,6 +1,7 @@
 // The samples of a channel in a slice.
 ghost use Rattle.std.specs.Prelude.{◌≡◌, length, take, drop};
 ghost use Rattle.rle_format.specs.Slice.{overwrite};
+ghost use Rattle.pixel_format.specs.Channel.{samples_of};
 ghost use Rattle.pixel_format.specs.Samples.{samples_in};
 
 use crate::column::Column;
@@ -15,9 +16,10 @@ pub struct Samples<'a> {
 }
 
 impl Samples<'_> {
-    // How many there are; of pixels, those that are complete.
+    // How many there are; of pixels, those that are complete. The other channels of the slice have as many.
     pub fn count(self) -> usize
-        ensures { result ≡ length (samples_in self.entry) }
+        ensures own { result ≡ length (samples_in self.entry) }
+        ensures each { (c : Channel) → result ≡ length (samples_of self.entry.layout c self.entry.src.now) }
     {
         match self.layout {
             Layout::Planar => self.src.len(),

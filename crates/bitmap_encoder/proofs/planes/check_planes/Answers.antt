@@ -24,7 +24,7 @@ returns-then-count-area-clause-refused c =
     let s = c.in_ok-sides.sides in
     let same = sides_same a.width a.height s c.in_ok-sides.ensures in
     let area = same_area a.width a.height (map samples_in a.planes.now) s same in
-    let here = short_at (s.width * s.height) a.planes.now l.plane-index c.count.result _ c.loop-plane-test.true c.count.ensures (omega arith) in
+    let here = short_at (s.width * s.height) a.planes.now l.plane-index c.count.result _ c.loop-plane-test.true c.count.ensures.own (omega arith) in
     pack_short a.width a.height (map samples_in a.planes.now) s same (sym (ap (λ (n : ℕ). any_short n (map samples_in a.planes.now)) area) ∙ l.invariant ∙ here)
 
 pub loop-plane-preserved : goal.loop-plane-preserved
@@ -32,7 +32,7 @@ loop-plane-preserved c =
     let a = c.args in
     let l = c.loop-plane in
     let s = c.in_ok-sides.sides in
-    l.invariant ∙ short_behind (s.width * s.height) a.planes.now l.plane-index c.count.result _ c.loop-plane-test.true c.count.ensures (omega arith)
+    l.invariant ∙ short_behind (s.width * s.height) a.planes.now l.plane-index c.count.result _ c.loop-plane-test.true c.count.ensures.own (omega arith)
 
 pub returns-clause-passed : goal.returns-clause-passed
 returns-clause-passed c =
