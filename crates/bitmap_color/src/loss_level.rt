@@ -25,6 +25,7 @@ impl LossLevel {
     }
 
     // The colour of a pixel. Without the alpha flag red and blue change places.
+    // The samples stay three parameters: each is read from a plane of its own.
     pub fn color(self, alpha: bool, y: u8, co: u8, cg: u8) -> Rgb
         ensures { result ≡ aycocg_colour alpha self.level y co cg }
     {
@@ -52,6 +53,7 @@ fn chroma_value(cll: LossLevel, byte: u8) -> i16
 }
 
 // The nearest byte.
+// By `as`: after `clamp` there is no value that TryFrom would refuse.
 fn clip_i16(v: i16) -> u8
     ensures { result ≡ clip v }
 {

@@ -28,6 +28,7 @@ fn header_to_send(alpha: bool, rle: bool) -> BitmapStreamHeader
 
 // Packs a picture from its R, G and B, each in a slice of its own, into the first bytes of dst. Refusals 1, 2, 11, then 12; FORMAT 8.3 says what
 // each leaves in dst.
+// The four packers stay four, and take slices and sides one by one: C has each of them (rdp6_encode_channels to rdp6_encode_bitmap_alpha).
 pub fn encode_channels_body(
     r: &[u8],
     g: &[u8],

@@ -25,6 +25,7 @@ fn check_planes(planes: &[Samples], width: usize, height: usize) -> Result<Valid
 }
 
 // Packs each plane behind the one before it (FORMAT 7.3).
+// `at` is counted, since each plane says how many bytes it took.
 fn compress_planes(planes: &[Samples], dst: &mut [u8], sides: ValidSides) -> Result<usize, Refusal>
     requires { any_short (sides.width * sides.height) (map samples_in planes.now) ≡ false }
     ensures answer { to_answer result ≡ answer_at (picture_segments sides.width sides.height (map samples_in planes.now)) dst.old 0 }
@@ -38,6 +39,7 @@ fn compress_planes(planes: &[Samples], dst: &mut [u8], sides: ValidSides) -> Res
 }
 
 // Writes the first n samples of each plane, and the zero byte that ends a raw body (FORMAT 7.4).
+// `at` is counted: behind the loop it is where the zero byte goes.
 fn write_planes(planes: &[Samples], dst: &mut [u8], n: usize) -> Result<usize, Refusal>
     requires { (length planes.now ≤ 4) × (n ≤ 67108864) × (any_short n (map samples_in planes.now) ≡ false) }
     ensures answer { to_answer result ≡ (write_all_or_nothing (raw_body n (map samples_in planes.now)) (length dst.old)).answer }

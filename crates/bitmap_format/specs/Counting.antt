@@ -1,5 +1,6 @@
 -- Where the chroma samples of each pixel are, found by counting from pixel to pixel (FORMAT 6.3; document 02, Card 3), and the claim that `chroma_index`
--- gives the same. proofs/Counting.antt has its proof. No contract uses these; the invariants of the loops over rows and over columns do.
+-- gives the same. proofs/Counting.antt has its proof. The invariants of the loops over rows and over columns use these,
+-- and the contracts of the private functions that count (bitmap_image/src/planes.rt).
 use Rattle.std.specs.Prelude.{ℕ, zero, suc, ◌+◌, ◌*◌, ◌%◌, ◌<◌, Bool, ◌&&◌, ◌≡◌, eqb, ltb}
 use Rattle.rle_format.specs.Choice.{choose}
 use Rattle.bitmap_format.specs.Planes.{chroma_side_of}

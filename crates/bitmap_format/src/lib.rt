@@ -88,7 +88,8 @@ pub fn chroma_side(subsampling: bool, side: usize) -> usize
     side
 }
 
-// The sizes answer 0 for sides that are refused, which a `Picture` excludes, so they take header record and sides one by one, as their clauses say.
+// The sizes answer 0 for sides that are refused, which a `Picture` excludes, so they take header record and sides one by one, as their clauses say. The 0 is
+// no Option: the clauses have it, and C gets it (rdp6_work_size, rdp6_image_size).
 
 // The minimum size of a body, or 0 if the sides are refused.
 pub fn min_body_size(header: BitmapStreamHeader, width: usize, height: usize) -> usize

@@ -29,6 +29,7 @@ const NARROW_WIDTH: usize = 256;
 // Writes an image of four-byte pixels, with arrays of N bytes for two chroma rows. The image stays a slice beside the planes, with a fact on its
 // length: in a struct contracts would name it as `planes.old.image` and `planes.new.image`, which is no plainer. Not inlined: a frame this large
 // behind the tests of its caller is not safe (examples/check-probes).
+// The layout stands beside the planes, since the format of a `Picture` may be RGB24.
 #[inline(never)]
 fn write_with_arrays<const N: usize>(
     layout: PixelLayout,
@@ -92,6 +93,7 @@ fn has_planes(picture: Picture, planes: usize, alpha: usize, image: usize) -> bo
 
 // Writes the image of a picture. `planes` begins with its three colour planes, `alpha` with its alpha plane, if four-byte pixels show one. If the
 // picture cannot be written, the image is unchanged.
+// Header record and sides stay one by one: its clause, which docs/PROOFS.md names, is of every header record and of all sides.
 pub fn write_planes(
     format: PixelFormat,
     header: BitmapStreamHeader,

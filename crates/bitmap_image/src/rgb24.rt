@@ -9,6 +9,7 @@ use bitmap_format::Picture;
 use bitmap_rows::{ColorRule, write_rgb24_row};
 
 // Writes the rows of the image.
+// rows.rt says why the loop stays, and why `second` is counted.
 pub(crate) fn write_rgb24_rows(planes: ColorPlanes<'_>, image: &mut [u8])
     requires { image_size_of three_bytes planes.picture.width planes.picture.height ≤ length image.old }
     ensures { image.new ≡ write_rows (row_size three_bytes planes.entry.picture.width) (image_row three_bytes planes.entry.picture.header.color_plane_definition planes.entry.picture.header.use_alpha planes.entry.picture.width planes.entry.picture.height planes.entry.planes.now []) planes.entry.picture.height image.old }

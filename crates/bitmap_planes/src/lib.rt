@@ -81,6 +81,7 @@ fn decompress_color_planes(
 
 // Unpacks the planes of a picture into the work area: alpha, if flagged, from `offset` on, then the three colour planes from 0 on. A plane that has no
 // room is refused with 10, and sides that are not allowed with 1 or 2.
+// The offset stays a number: where the work area ends before it, the plane is refused, and a slice could not say so.
 pub fn decompress_planes(
     header: BitmapStreamHeader,
     offset: usize,

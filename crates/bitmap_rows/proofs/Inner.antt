@@ -64,6 +64,7 @@ module _ (form : PixelForm) (d : ColorPlaneDefinition) (flagged : Bool) (first s
 -- ---- four-byte pixels
 
 -- the bytes of a word that was made of them
+-- No code makes a word now; the theorem stays, since docs/ARCHITECTURE.md names it.
 pub word_bytes_lem : (a b c d : ℕ) → a < 256 → b < 256 → c < 256 → d < 256 → word_bytes (a + b * 256 + c * 65536 + d * 16777216) ≡ a ∷ b ∷ c ∷ d ∷ []
 word_bytes_lem a b c d ha hb hc hd =
     let w : ℕ = a + b * 256 + c * 65536 + d * 16777216 in

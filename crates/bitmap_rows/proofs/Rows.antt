@@ -20,7 +20,7 @@ use Rattle.bitmap_format.specs.Colour.{aycocg_colour}
 use Rattle.bitmap_format.specs.Planes.{subsampled, chroma_side_of}
 use Rattle.bitmap_format.specs.Image.{chroma_index, concat_up_to}
 use Rattle.bitmap_format.specs.Picture.{is_loss_level_invalid_of}
-use Rattle.bitmap_format.specs.Pixels.{PixelForm, three_bytes, four_bytes, bytes_per_pixel_of, pixel_bytes}
+use Rattle.bitmap_format.specs.Pixels.{PixelForm, four_bytes, bytes_per_pixel_of, pixel_bytes}
 use Rattle.bitmap_format.proofs.Image.{length-concat_up_to}
 use Rattle.bitmap_rows.specs.Rows.{pixel_at, row_pixels, samples_fit, shown_alpha, row_fits, write_row_of, full_chroma, doubled, write_doubled}
 
@@ -40,14 +40,6 @@ pub full_chroma_side : (d : ColorPlaneDefinition) (width : ℕ) → chroma_side_
 unfolding chroma_side_of
 full_chroma_side Argb width = refl
 full_chroma_side (AYCoCg level s) width = refl
-
-pub length-row_pixels : (form : PixelForm) (d : ColorPlaneDefinition) (flagged : Bool) (first second third alpha : List ℕ) (width : ℕ)
-    → length (row_pixels form d flagged first second third alpha width) ≡ width * bytes_per_pixel_of form
-length-row_pixels form d flagged first second third alpha width = length-concat_up_to width (bytes_per_pixel_of form) (pixel_at form d flagged first second third alpha) (λ k. sized form k)
-  where
-    sized : (form : PixelForm) (k : ℕ) → length (pixel_at form d flagged first second third alpha k) ≡ bytes_per_pixel_of form
-    sized three_bytes k = refl
-    sized (four_bytes p) k = refl
 
 module _ (form : PixelForm) (d : ColorPlaneDefinition) (flagged : Bool) (first second third alpha : List ℕ) (width : ℕ) (dst : List ℕ) where
   pub row_no_room : length dst < bytes_per_pixel_of form * width → dst ≡ write_row_of form d flagged first second third alpha width dst

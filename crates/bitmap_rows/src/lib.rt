@@ -69,6 +69,7 @@ pub fn write_pixel_row(
 }
 
 // Writes the chroma samples of a subsampled row, one for each column (FORMAT 6.3).
+// Samples, slice and width stay three parameters: without room for the width nothing is written, which is its clause.
 #[tactic(auto, unfolding(crate::specs::Rows::write_doubled))]
 pub fn double_samples(samples: &[u8], doubled: &mut [u8], width: usize)
     ensures { doubled.new ≡ write_doubled samples.now width doubled.old }

@@ -16,6 +16,7 @@ pub(crate) trait Pixel: Copy {
     ghost bytes: { Self → List ℕ };
 
     // Writes the bytes to dst from index `at` on.
+    // Slice and index stay two parameters: `write_at`, which says what is written and what is kept, has both.
     fn store(self, dst: &mut [u8], at: usize)
         requires { at + SIZE ≤ length dst.old }
         ensures { dst.new ≡ write_at dst.old at (bytes self) };
@@ -51,6 +52,7 @@ impl Pixel for (Rgb, Rgb) {
 }
 
 // Two samples.
+// A pair of samples is no pair of pixels: one impl for both would make a sample a pixel, with a SIZE computed from that of its half.
 impl Pixel for (u8, u8) {
     ghost SIZE = { 2 };
 

@@ -44,6 +44,7 @@ pub fn split_stream(stream: &[u8]) -> Result<Split<'_>, Refusal>
 }
 
 // The minimum size of the work area of a stream, from its header byte; 0 if the stream is empty, or if the sides are refused.
+// The 0 is no Option: it is the answer of rdp6_stream_work_size.
 pub fn stream_work_size(format: PixelFormat, stream: &[u8], width: usize, height: usize) -> usize
     ensures { result ≡ check_sides_of (λ (_ : ℕ). 0) width height (stream_work_size_of (format_to_form format) width height stream.now) }
 {
@@ -72,6 +73,7 @@ fn decode_stream_to(
 }
 
 // To three-byte pixels, R, G and B.
+// This function and the next stay two: README names both, and each has a clause by a definition of its own.
 pub fn decode_bitmap_stream_to_rgb24(
     stream: &[u8],
     work: &mut [u8],
@@ -123,6 +125,7 @@ fn write_header_byte(body: Encoded, dst: &mut [u8]) -> usize
 
 // Packs a stream from R, G and B, each in a slice of its own: the header byte, then the body. Refusals 1, 2, 11, then 12; none of them writes the header
 // byte, and FORMAT 8.3 says what each leaves in dst.
+// The four packers stay four: C has one of each kind, and their clauses say which planes each packs. They take slices and sides one by one, as C does.
 pub fn encode_channels_stream(
     r: &[u8],
     g: &[u8],

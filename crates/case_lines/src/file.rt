@@ -1,5 +1,5 @@
 // A data file: loaded completely, its cases replayed one after the other, and its tally printed after the last one.
-ghost use Rattle.std.specs.Prelude.{◌≤◌, length, IfOk};
+ghost use Rattle.std.specs.Prelude.{◌≤◌, length, IfOk, IfSome};
 
 use crate::report::{LineResult, Report};
 use std::fs;
@@ -19,20 +19,20 @@ pub trait Replay {
 }
 
 // Replays the cases of the file at `path`, prints those that did not give the stored result, and the tally, and returns how many bytes the file has.
-// If the file cannot be loaded, it prints why, and returns 0.
-pub fn replay_file<R: Files + Print>(rt: &R, path: &[u8], kind: &impl Replay) -> usize
-    ensures { result ≤ 1048576 }
+// If the file cannot be loaded, it prints why, and returns None.
+pub fn replay_file<R: Files + Print>(rt: &R, path: &[u8], kind: &impl Replay) -> Option<usize>
+    ensures { IfSome result (λ size. size ≤ 1048576) }
 {
     let report = Report::new(rt, path);
     let mut buffer = [0u8; BUFFER_SIZE];
     match load(rt, path, &mut buffer) {
         Ok(length) => {
             replay_text(&buffer[..length], kind, report);
-            length
+            Some(length)
         }
         Err(why) => {
             report.fail(why);
-            0
+            None
         }
     }
 }

@@ -39,6 +39,7 @@ pub fn next_numbers<const N: usize>(line: &[u8]) -> Option<([usize; N], &[u8])>
 }
 
 // Reads a flag, 0 or 1.
+// This reader and the next stay two: one that takes the conversion as a closure would ask in a `requires` that it may be called.
 pub fn next_flag(line: &[u8]) -> Option<(bool, &[u8])>
     ensures meaning { to_read result ≡ as_meant flag_of (number_at line.now) }
     ensures rest { IfSome result (λ p. IsRest line.now p.1.now) }
@@ -66,6 +67,7 @@ pub fn next_answer(line: &[u8]) -> Option<(Answer, &[u8])>
 }
 
 // Reads a field of bytes into the first bytes of `into`, and returns how many they are.
+// A count, and not that part of `into`, which would stay lent as long as the part is used.
 pub fn next_bytes<'a>(line: &'a [u8], into: &mut [u8]) -> Option<(usize, &'a [u8])>
     ensures result_in_bounds { count_of result ≤ length into.old }
     ensures rest { IfSome result (λ p. p.1.now ≡ drop (next_of_bytes line.now result) line.now) }
@@ -75,6 +77,7 @@ pub fn next_bytes<'a>(line: &'a [u8], into: &mut [u8]) -> Option<(usize, &'a [u8
 }
 
 // The flag that a line has as a number.
+// No TryFrom: neither type is of this crate.
 pub fn flag_of(flag: usize) -> Option<bool>
     ensures { result ≡ flag_of flag }
 {
@@ -127,6 +130,7 @@ fn answer_of_field(field: &[u8]) -> Option<Answer>
 }
 
 // The value of a field that consists of decimal digits. A value that does not fit into a usize is malformed.
+// No `parse`, which takes a plus sign too.
 fn decimal_of(field: &[u8]) -> Option<usize>
     ensures { result ≡ decimal_in field.now }
 {

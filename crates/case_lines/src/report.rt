@@ -48,6 +48,7 @@ impl From<Result<usize, Refusal>> for Answer {
 
 // What was observed of a case that did not give the stored result: the two answers; whether the returned header record, if there is one, is the
 // expected one; the slices that could be written, compared.
+// header_equal is no Option: without a header record nothing can differ, which is what true says.
 #[derive(Clone, Copy)]
 pub struct Difference {
     pub expected: Answer,
@@ -75,6 +76,7 @@ impl fmt::Display for Difference {
 }
 
 // The result of replaying a line.
+// No Result: two kinds are failures, and each is counted and printed in its own way.
 #[derive(Clone, Copy)]
 pub enum LineResult {
     Equal,

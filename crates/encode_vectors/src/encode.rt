@@ -115,6 +115,7 @@ fn next_case(kind: CaseKind, line: &[u8]) -> Option<(Case, &[u8])> {
 }
 
 // Reads the layout, which only the line of pixels has.
+// Here and in the next function the kind says whether the line has a field: closures for each kind would read every field twice.
 fn next_layout(kind: SourceKind, line: &[u8]) -> Option<(Option<PixelLayout>, &[u8])> {
     match kind {
         SourceKind::Channels => Some((None, line)),
@@ -201,6 +202,8 @@ fn run(case: Case, source: Source, after: &[u8]) -> LineResult
     )
 }
 
+// This function and the next stay two: the calls are of two crates, with two types of result. Case and source stay two parameters: the numbers
+// are read before there is room for the bytes.
 fn pack_stream(case: Case, source: Source, dst: &mut [u8]) -> Result<usize, Refusal> {
     let Case {
         rle,
@@ -265,6 +268,7 @@ fn body_answer(expected: ExpectedHeader, packed: Result<Encoded, Refusal>) -> (A
     }
 }
 
+// Not derived: a line has no loss level to compare.
 fn is_header_equal(expected: ExpectedHeader, header: BitmapStreamHeader) -> bool {
     let is_argb = matches!(header.color_plane_definition, ColorPlaneDefinition::Argb);
     expected.rle == header.enable_rle_compression

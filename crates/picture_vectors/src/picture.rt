@@ -40,6 +40,7 @@ pub(crate) struct CaseKind {
 }
 
 // The source of a case: a body with its header record, or a stream.
+// No Option of a header record: a stream has its own in its first byte.
 #[derive(Clone, Copy)]
 enum Source {
     Body(BitmapStreamHeader),
@@ -55,6 +56,7 @@ struct Rooms {
 }
 
 // What the calls of a case return. The minimum size of the work area is 0 for a body, whose line does not have it.
+// No Option: both that is expected and that is returned have the 0.
 #[derive(Clone, Copy)]
 struct Returned {
     work_size: usize,
@@ -128,6 +130,7 @@ fn next_case(kind: CaseKind, line: &[u8]) -> Option<(Case, &[u8])> {
 }
 
 // Reads the header record, which only the line of a body has.
+// Here and in the readers below the kind says whether the line has a field: closures for each kind would read every field twice.
 fn next_source(kind: SourceKind, line: &[u8]) -> Option<(Source, &[u8])> {
     match kind {
         SourceKind::Stream => Some((Source::Stream, line)),
@@ -190,6 +193,7 @@ fn next_work_size(kind: SourceKind, line: &[u8]) -> Option<(usize, &[u8])> {
 }
 
 // Makes the calls of a case.
+// Case and bytes stay two parameters: the numbers are read before there is room for the bytes.
 fn call(case: Case, bytes: &[u8], work: &mut [u8], image: &mut [u8]) -> Returned {
     guarded::prepare(work);
     guarded::prepare(image);
@@ -227,6 +231,7 @@ fn decode(case: Case, bytes: &[u8], work: &mut [u8], image: &mut [u8]) -> Result
 }
 
 // Reads a field of `size` bytes, and compares the slice that lies between guard bytes in `array` with it.
+// Array and size stay two: the guard bytes behind the slice are compared too.
 fn next_comparison<'a>(
     line: &'a [u8],
     array: &[u8; ARRAY_SIZE],

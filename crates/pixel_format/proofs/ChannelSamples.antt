@@ -83,7 +83,7 @@ module _ (l : Layout) (c : Channel) (s : List ℕ) where
       let same : n ≡ length part = sym (length-take-le n d (omega arith)) ∙ sym long in
       ap (λ (k : ℕ). part ++ drop k d) same ∙ ap (overwrite d) (is ∙ read_limited (samples_of l c s) from n (length d) all)
 
--- each channel of a slice has as many
+-- each channel of a slice has as many, which `Samples::count` says too
 pub as_many : (l : Layout) (c other : Channel) (s : List ℕ) → length (samples_of l c s) ≡ length (samples_of l other s)
 as_many Planar c other s = refl
 as_many (Pixels p) c other s = length_channel (channel_offsets p) c s ∙ sym (length_channel (channel_offsets p) other s)

@@ -106,5 +106,6 @@ all_apart p h =
       b_not_a = apart p.b p.a b q₀.ba q₁.ba q₂.ba q₃.ba;
     }
 
+-- For users of the layouts: nothing in this repository needs it now.
 pub layouts_apart : (layout : PixelLayout) → Apart (channel_offsets layout)
 layouts_apart layout = all_apart (channel_offsets layout) (layouts_rearrange layout)

@@ -52,6 +52,7 @@ impl Column<'_> {
     }
 
     // The sample in the word of a pixel. `to_le_bytes()[offset]` reads it from memory, which takes five times as long.
+    // By `as`: the offset is under 4, the remainder under 256, and TryFrom would test both again.
     fn sample_of(self, word: u32) -> u8
         ensures { result ≡ word / 2 ^ (8 * self.entry.offset) % 256 }
     {
@@ -74,6 +75,7 @@ impl Column<'_> {
     }
 
     // The same for as many blocks of N pixels as dst has room for. Returns the number of samples.
+    // No `chunks_exact_mut`: the pixels need the index of each block as well, so it would be counted all the same.
     fn copy_blocks<const N: usize>(self, from: usize, dst: &mut [u8]) -> usize
         requires { (0 < N) × (from + length dst.old ≤ length self.pixels.now / 4) }
         ensures within { (result ≤ length dst.old) × (length dst.old < result + N) }

@@ -18,6 +18,7 @@ pub enum PixelLayout {
 }
 
 // The pixels of an image that is unpacked: R, G and B, or four bytes in a layout.
+// No Option of a layout: a reader sees at each place which of the two kinds of pixels is meant.
 #[derive(Clone, Copy)]
 pub enum PixelFormat {
     Rgb24,
@@ -33,6 +34,7 @@ pub enum Channel {
 }
 
 // Planar: every byte of the slice is a sample of the channel. Pixels: one byte of every pixel is.
+// Likewise no Option.
 #[derive(Clone, Copy)]
 pub enum Layout {
     Planar,

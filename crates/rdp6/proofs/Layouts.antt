@@ -34,16 +34,6 @@ c_layout_unknown layout h =
       ne_eqb layout 3 (λ (e : layout ≡ 3). omega (arith, e)),
     )
 
--- the answer of a call with an unknown layout fits 64 bits
-pub unknown_fits : (w h : ℕ) → SFits w64 (c_number (unknown_layout w h))
-unfolding unknown_layout check_sides_of
-unknown_fits w h = go (eqb w 0 || eqb h 0) (ltb 8192 w || ltb 8192 h)
-  where
-    go : (s t : Bool) → SFits w64 (c_number (choose s (refused 1) (choose t (refused 2) (refused 3))))
-    go true t = refusal_fits 1 (omega arith)
-    go false true = refusal_fits 2 (omega arith)
-    go false false = refusal_fits 3 (omega arith)
-
 -- ---- unpacking a stream to an unknown layout
 
 -- work area and image stay as they are

@@ -20,9 +20,6 @@ use Rattle.bitmap_format.proofs.PackRoom.{pack_picture_within}
 use Rattle.bitmap_format.proofs.StreamCounts.{packed_stream_within}
 use Rattle.rdp6.specs.Number.{c_number}
 
-pub count_fits : (n : ℕ) → n < 9223372036854775808 → SFits w64 (pos n)
-count_fits n h = record { sfits = omega arith }
-
 pub refusal_fits : (r : ℕ) → r ≤ 255 → SFits w64 (neg_ℤ (pos r))
 refusal_fits zero h = record { sfits = omega arith }
 refusal_fits (suc r) h = record { sfits = omega arith }

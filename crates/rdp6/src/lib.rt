@@ -1,5 +1,6 @@
 // The C interface of librdp6.a; include/rdp6.h has the prototypes. A slice is passed as a pointer and a length. Each function calls one function of
 // another crate and returns its answer as one number (FORMAT 8.4). Only an unknown layout is refused here.
+// Names, parameters, numbers of kinds and sizes of 0 are those of include/rdp6.h, so functions that are alike stay side by side.
 #![tactic(auto)]
 
 ghost use Rattle.std.specs.Prelude.{◌≡◌, true, false, ℕ, ◌<◌, length, Ok};
@@ -36,6 +37,7 @@ fn refusal_number(refusal: Refusal) -> i64
 }
 
 // The answer of a call, as C gets it. A number of bytes is at most what a slice can have, so it fits 64 bits.
+// By `as`, for that reason.
 fn answer_number(answer: Result<usize, Refusal>) -> i64
     requires { (n : ℕ) → answer ≡ Ok n → n < 9223372036854775808 }
     ensures { result ≡ c_number (to_answer answer) }
@@ -54,6 +56,7 @@ fn body_size(body: Result<Encoded, Refusal>) -> Result<usize, Refusal>
 }
 
 // The loss level, from an argument of a C function. A number that is no level becomes 0 before it is narrowed: 257 must not become 1.
+// By `as`: `u8::try_from` would take 8 to 255 too.
 fn level_of(level: u32) -> u8
     ensures { result ≡ c_level level }
 {
@@ -64,6 +67,7 @@ fn level_of(level: u32) -> u8
 }
 
 // The plane definition, from the arguments of a C function. An unknown number is refused with 3, by way of loss level 0.
+// No Result: refusals 1 and 2, of the sides, come before it.
 fn definition_of(definition: u32, level: u32, subsampling: bool) -> ColorPlaneDefinition
     ensures { result ≡ c_definition definition level subsampling }
 {
@@ -100,6 +104,7 @@ fn header_of(
 }
 
 // The layout, from an argument of a C function. The number is not narrowed before it is compared: 256 is not BGRA.
+// No TryFrom: neither type is of this crate, and the number is that of C alone.
 fn layout_of(layout: u32) -> Option<PixelLayout>
     ensures { result ≡ c_layout layout }
 {

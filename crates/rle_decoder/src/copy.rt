@@ -7,6 +7,7 @@ use crate::row_so_far::{RowSoFar, Segment};
 
 // Copies 16 bytes of src, from index `from` on, to codes from index `at` on. The compiler does not know that the slices do not overlap, but it
 // knows it of the local array; by way of that the copy is one load and one store.
+// Slices and indices stay four parameters: `write_at` and `drop`, which say what is copied and what is kept, have them.
 pub(crate) fn copy_16(src: &[u8], from: usize, codes: &mut [u8], at: usize)
     requires { (from + 16 ≤ length src.now) × (at + 16 ≤ length codes.old) }
     ensures { codes.new ≡ write_at codes.old at (take 16 (drop from src.now)) }

@@ -19,6 +19,7 @@ pub(crate) fn near_end_index(src: &[u8]) -> usize
 
 // Reads a segment as `decompress_next_segment` does, but tests for every byte of src whether it is there, and copies raw bytes by their
 // number.
+// Parameters as there.
 fn decompress_last_segment(
     src: &[u8],
     row: RowSoFar,

@@ -39,6 +39,7 @@ pub(crate) fn last_decoded_byte(src: &[u8], row: RowSoFar, raw: usize) -> u8
 
 // Reads the row's next segment. Its values go to codes, behind those of the row, before the row knows whether they fit. They are written in
 // steps of 16 bytes, whatever their number: what codes has behind them is not determined.
+// Source, row and codes stay three parameters: the row is copied at each segment, and only the codes are written.
 pub(crate) fn decompress_next_segment(
     src: &[u8],
     row: RowSoFar,

@@ -19,6 +19,7 @@ use rle_scanline_encoder::encode_scanline;
 const SHORT_ROW: usize = 32;
 
 // Packs a row into dst from index `at` on, segment by segment, and returns the index behind it.
+// Destination and index stay two parameters: `answer_at` and `slice_at` have both.
 fn encode_by_segments(codes: &[u8], dst: &mut [u8], at: usize) -> Result<usize, Refusal>
     requires { at ≤ length dst.old }
     ensures answer { to_answer result ≡ answer_at (row_segments codes.now) dst.old at }

@@ -8,6 +8,7 @@ ghost use Rattle.rle_encoder.specs.RunFlags.{four_equal_of, Flagged, Bits, AllAr
 const ALL_SET: u64 = 0x0101010101010101;
 
 // Without branches, so that many flags are made at a time.
+// A byte and no bool, since eight are read as one word.
 fn four_equal(a: u8, b: u8, c: u8, d: u8) -> u8
     ensures { result ≡ four_equal_of a b c d }
 {
@@ -15,6 +16,7 @@ fn four_equal(a: u8, b: u8, c: u8, d: u8) -> u8
 }
 
 // Makes the flags of a row of `width` values. The eight flags behind them, which a word may reach, are cleared.
+// By index: each flag is of four values, and both slices go on behind the row. Flags and width stay two for the same reason.
 pub(crate) fn flag_runs(codes: &[u8], width: usize, flags: &mut [u8])
     requires { (width + 3 ≤ length codes.now) × (width + 8 ≤ length flags.old) }
     ensures flags { Flagged codes.now flags.new 0 width }
@@ -27,6 +29,7 @@ pub(crate) fn flag_runs(codes: &[u8], width: usize, flags: &mut [u8])
 }
 
 // Eight flags as one word, the first flag lowest.
+// Slice and index stay two: `flag_word` has both.
 fn word(flags: &[u8], at: usize) -> u64
     requires { at + 8 ≤ length flags.now }
     ensures { result ≡ flag_word flags.now at }
@@ -69,6 +72,7 @@ fn skip<const V: u64>(flags: &[u8], from: usize, width: usize) -> usize
 }
 
 // The first index from `from` on whose flag is not V; if all flags of the row are V, an index from the width on.
+// By `as`: a word has at most 64 zero bits.
 pub(crate) fn next_other<const V: u64>(flags: &[u8], from: usize, width: usize) -> usize
     requires { (V ≤ 1) × (from ≤ width) × (width + 8 ≤ length flags.now) × Bits flags.now from (width + 8) }
     ensures { (from ≤ result) × (result ≤ width + 7) × AllAre V flags.now from result × (result < width → slice_index flags.now result ≡ 1 - V) }

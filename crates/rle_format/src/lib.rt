@@ -32,6 +32,7 @@ pub enum Refusal {
 }
 
 // The number of a refusal.
+// By `as`, the one way from an enum to its number.
 impl From<Refusal> for u8 {
     ghost from_gives = { λ refusal n. n ≡ number refusal };
 

@@ -38,6 +38,7 @@ fn unpack_prefix(
 
 // Packs the first width × height bytes of src into packed, and unpacks the first `end` bytes of that slice into dst: a truncated packing if `end` is
 // less than its length, else the packing and what the slice held behind it.
+// `packed` and `end` stay two: an `end` over the slice has an answer of its own.
 pub fn round_trip(
     src: &[u8],
     packed: &mut [u8],

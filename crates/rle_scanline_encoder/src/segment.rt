@@ -4,6 +4,7 @@
 // The destination and the index stay two parameters: `answer_at` and `Wrote` of rle_format take the index behind as the result of a call.
 // The loops stay `while`, since each turn is a segment. With `chunks_exact(15)` the last 1 to 15 raw bytes, which go with the run, are cut off
 // first, by a division at each call: that was tried, and planes 16 wide take up to 1.13 times as long.
+// Control bytes are made by `as`: both halves are at most 15, which TryFrom would test again.
 ghost use Rattle.std.specs.Prelude.{◌≡◌, [], ◌∷◌, ◌≤◌, ◌<◌, min, length};
 ghost use Rattle.rle_format.specs.Answer.{to_answer};
 ghost use Rattle.rle_format.specs.Pack.{literal, repeat, split_segments, long_run};
