@@ -1,27 +1,19 @@
 -- What the number of a layout means, and what a call does by it. Assumes nothing.
 use mathlib.Core.Path.{◌≡◌, refl, sym, ap, ◌∙◌}
 use mathlib.Core.List.{List, []}
-use mathlib.Core.Bool.{Bool, true, false, ◌||◌}
 use Prim.Native.Nat.{ℕ, ◌<◌}
 use native.Mathlib.Omega.{arith}
-use lib.Dec.{eqb, ltb}
 use Rattle.std.specs.Prelude.{Option, None, Ok, Err}
 use borrow.Author.Tests.{ne_eqb}
-use mir.Val.{SFits}
-use mir.Syntax.{w64}
 use Rattle.rle_format.specs.declared.Refusal.{Refusal}
 use Rattle.rle_format.specs.Answer.{Answer, refused, number}
-use Rattle.rle_format.specs.Choice.{choose}
-use Rattle.rle_format.specs.Sides.{check_sides_of}
 use Rattle.bitmap_format.specs.declared.BitmapStreamHeader.{BitmapStreamHeader}
 use Rattle.bitmap_format.specs.Stream as format
 use Rattle.bitmap_format.specs.Stream.{split_rest, split_stream_of, unpack_split, unpack_stream_by}
 use Rattle.bitmap_stream.specs.declared.Split.{Split}
 use Rattle.bitmap_stream.specs.Split.{split_of}
 use Rattle.pixel_format.specs.declared.PixelLayout.{PixelLayout}
-use Rattle.rdp6.specs.Number.{c_number}
 use Rattle.rdp6.specs.Layout.{c_layout, unknown_layout, unchanged_picture, c_unpack_pixels, c_unpack_pixel_stream, unknown_layout_of_stream}
-use Rattle.rdp6.proofs.Numbers.{refusal_fits}
 
 -- a number over 3 means no layout, however large it is
 pub c_layout_unknown : (layout : ℕ) → 3 < layout → c_layout layout ≡ None
