@@ -60,7 +60,8 @@ impl Column<'_> {
     }
 
     // Copies the samples of N pixels, from pixel `from` on. They are read as words into an array, which the compiler turns into vector instructions.
-    // Single bytes 4 apart it reads one by one. The second loop is not zipped with the words: its invariant would have to say what the iterator has left.
+    // Single bytes 4 apart it reads one by one. The second loop is not zipped with the words: that was tried, and of what a zipped
+    // `iter_mut` has written a proof knows only the length.
     fn copy_block<const N: usize>(self, from: usize, dst: &mut [u8])
         requires { (from + N ≤ length self.pixels.now / 4) × (length dst.old ≡ N) }
         ensures { IsCopied (samples_at self.entry) from dst.new N }
