@@ -16,7 +16,7 @@ use bitmap_rows::{ColorRule, RowSamples, double_samples, write_pixel_row};
 use pixel_format::PixelLayout;
 
 // Writes a row of four-byte pixels. The two arrays are for the chroma samples of a subsampled row, one for each column.
-// The rule, the samples and the arrays stay parameters: only one of the two calls below takes all of them.
+// The rule, the samples and the arrays stay parameters: only a subsampled row needs the arrays.
 fn write_row(
     layout: PixelLayout,
     rule: ColorRule,
@@ -45,8 +45,8 @@ fn write_row(
 }
 
 // Writes the rows of an image of four-byte pixels.
-// What this loop and that of rgb24.rt share is in `ColorPlanes`; one loop for both would write to the image and the arrays in a closure. `second` is
-// counted: how far it goes on depends on the row.
+// What this loop and that of rgb24.rt share is in `ColorPlanes`; one loop for both would need a closure that writes to the image and to
+// the arrays, which is no plainer. `second` is counted: how far it goes on depends on the row.
 pub(crate) fn write_pixel_rows(
     layout: PixelLayout,
     shown: ShownPlanes<'_, '_>,

@@ -65,7 +65,7 @@ fn write_aycocg_pixels(
 }
 
 // Whether alpha is before the colour.
-// This and the next match on the layout stay here: no other crate asks which byte is first.
+// This and the next stay two matches: each is a table of its own, with its own definition.
 fn alpha_first(layout: PixelLayout) -> bool
     ensures { result ≡ alpha_first_of layout }
 {

@@ -16,7 +16,7 @@ struct Entry {
     times: usize,
 }
 
-// Reads a decimal number.
+// Reads a decimal number. `next_answer` is alike, and stays another: each has a clause by a definition of its own.
 pub fn next_number(line: &[u8]) -> Option<(usize, &[u8])>
     ensures meaning { to_read result ≡ number_at line.now }
     ensures rest { IfSome result (λ p. p.1.now ≡ drop (next_of_number line.now result) line.now) }
@@ -88,7 +88,8 @@ pub fn flag_of(flag: usize) -> Option<bool>
     }
 }
 
-// The layout (FORMAT 7.1) that a line has as a number. It is no TryFrom, since both types are of other crates.
+// The layout (FORMAT 7.1) that a line has as a number. It is no TryFrom: the types are of other crates, and pixel_format
+// has no numbers for layouts; rdp6 has those of C by itself.
 #[tactic(auto, unfolding(crate::specs::Layouts::layout_of))]
 pub fn layout_of(number: usize) -> Option<PixelLayout>
     ensures { result ≡ layout_of number }

@@ -8,7 +8,7 @@ use crate::guarded::Comparison;
 use rle_format::Refusal;
 use std::{fmt, io};
 
-// The answer of a call: a number of bytes, or the number of a refusal. It is no Result of a Refusal, since data files have a -0 too, and print it so.
+// The answer of a call: a number of bytes, or the number of a refusal. It is no Result of a Refusal, since data files have a -0 too, and it is printed so.
 #[derive(Clone, Copy, PartialEq, Eq)]
 pub enum Answer {
     Count(usize),

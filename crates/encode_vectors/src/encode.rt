@@ -115,7 +115,8 @@ fn next_case(kind: CaseKind, line: &[u8]) -> Option<(Case, &[u8])> {
 }
 
 // Reads the layout, which only the line of pixels has.
-// Here and in the next function the kind says whether the line has a field: closures for each kind would read every field twice.
+// Here and in the next function the kind says whether the line has a field: with a closure for each
+// kind, the code that reads the common fields would stand twice.
 fn next_layout(kind: SourceKind, line: &[u8]) -> Option<(Option<PixelLayout>, &[u8])> {
     match kind {
         SourceKind::Channels => Some((None, line)),

@@ -56,7 +56,7 @@ struct Rooms {
 }
 
 // What the calls of a case return. The minimum size of the work area is 0 for a body, whose line does not have it.
-// No Option: both that is expected and that is returned have the 0.
+// No Option: for a body the expected size and the returned one are both 0.
 #[derive(Clone, Copy)]
 struct Returned {
     work_size: usize,
@@ -130,7 +130,8 @@ fn next_case(kind: CaseKind, line: &[u8]) -> Option<(Case, &[u8])> {
 }
 
 // Reads the header record, which only the line of a body has.
-// Here and in the readers below the kind says whether the line has a field: closures for each kind would read every field twice.
+// Here and in the readers below the kind says whether the line has a field: with a closure for each
+// kind, the code that reads the common fields would stand twice.
 fn next_source(kind: SourceKind, line: &[u8]) -> Option<(Source, &[u8])> {
     match kind {
         SourceKind::Stream => Some((Source::Stream, line)),

@@ -68,7 +68,7 @@ fn replay_case(operation: Operation, line: &[u8]) -> Option<LineResult> {
 }
 
 // Reads the numbers of a case.
-// Only here the operation says which fields a line has; then it is the call.
+// The operation is asked only here, for the fields of a line; from then on the `Call` says it.
 fn next_case(operation: Operation, line: &[u8]) -> Option<(Case, &[u8])> {
     let ([width, height], line) = read::next_numbers::<2>(line)?;
     let (call, line) = match operation {

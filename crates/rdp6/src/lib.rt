@@ -36,8 +36,8 @@ fn refusal_number(refusal: Refusal) -> i64
     -i64::from(u8::from(refusal))
 }
 
-// The answer of a call, as C gets it. A number of bytes is at most what a slice can have, so it fits 64 bits.
-// By `as`, for that reason.
+// The answer of a call, as C gets it. A number of bytes is at most what a slice can have, so it fits an i64:
+// `as` for that reason.
 fn answer_number(answer: Result<usize, Refusal>) -> i64
     requires { (n : ℕ) → answer ≡ Ok n → n < 9223372036854775808 }
     ensures { result ≡ c_number (to_answer answer) }
@@ -104,7 +104,7 @@ fn header_of(
 }
 
 // The layout, from an argument of a C function. The number is not narrowed before it is compared: 256 is not BGRA.
-// No TryFrom: neither type is of this crate, and the number is that of C alone.
+// No TryFrom: the types are of other crates, and pixel_format has no numbers for layouts; case_lines has those of its files by itself.
 fn layout_of(layout: u32) -> Option<PixelLayout>
     ensures { result ≡ c_layout layout }
 {

@@ -17,6 +17,7 @@ pub(crate) fn copy_16(src: &[u8], from: usize, codes: &mut [u8], at: usize)
 }
 
 // Writes `run` copies of a value to codes from index `at` on.
+// Slice and index stay two parameters: `write_at` has both.
 pub(crate) fn fill_run(codes: &mut [u8], at: usize, run: usize, value: u8)
     requires { at + run ≤ length codes.old }
     ensures { codes.new ≡ write_at codes.old at (replicate run value) }

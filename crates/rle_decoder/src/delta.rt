@@ -26,6 +26,7 @@ fn resolve_scanline_delta(codes: &[u8], rows: &mut [u8])
 
 // Writes the samples of the row that begins at index `start` of dst, from its codes and the row above. The first row has none above it, and its
 // codes are the samples.
+// Slice and index stay two parameters: the row above is read from the same slice.
 pub(crate) fn restore_row(codes: &[u8], dst: &mut [u8], start: usize)
     requires { (start + length codes.now ≤ length dst.old) × ((0 < start) → length codes.now ≤ start) }
     ensures { dst.new ≡ write_at dst.old start (restore_row_of (row_above dst.old start (length codes.now)) codes.now) }

@@ -32,7 +32,8 @@ const WIDE_CODES: usize = MAX_SIDE + MARGIN;
 
 // Reads the rows of a plane into the start of dst, each by way of codes, so that it reaches dst once: a full row as its samples, a refused
 // row as the coded values of its earlier segments. All rows are read by the same call, which the compiler then makes part of this loop.
-// `start` is counted: `chunks_exact_mut` lends one row, and a row is restored from the one above it too.
+// `start` is counted: `chunks_exact_mut` lends one row, and a row is restored from the one above it too. So
+// is `at`: each row says how many bytes it took.
 fn decode(src: &[u8], dst: &mut [u8], sides: ValidSides, codes: &mut [u8]) -> Result<usize, Refusal>
     requires { (sides.width * sides.height ≤ length dst.old) × (sides.width + 47 ≤ length codes.old) }
     ensures answer { to_answer result ≡ (unpack_rows sides.width sides.height none src.now).answer }

@@ -19,7 +19,7 @@ pub(crate) fn near_end_index(src: &[u8]) -> usize
 
 // Reads a segment as `decompress_next_segment` does, but tests for every byte of src whether it is there, and copies raw bytes by their
 // number.
-// Parameters as there.
+// Its parameters stay three for the reason given there.
 fn decompress_last_segment(
     src: &[u8],
     row: RowSoFar,
@@ -62,6 +62,7 @@ fn decompress_last_segment(
 }
 
 // Reads the rest of a row that began at index `from` of src.
+// Source and index stay two parameters: `row_continued` has both.
 pub(crate) fn decode_last_segments(
     src: &[u8],
     from: usize,
@@ -75,7 +76,8 @@ pub(crate) fn decode_last_segments(
     ensures within { coded_values width result ≤ width }
 {
     let mut row = so_far;
-    // no `for`, as in `decode_scanline`; and no function for both loops, since each calls a reader of its own and only that one tests for the end
+    // no `for`, as in `decode_scanline`; no function for both loops: each calls a reader of its own, and only the loop of `decode_scanline` tests
+    // whether the end is near
     while row.column < width {
         let segment = decompress_last_segment(src, row, codes)?;
         row = row.after(segment, width)?;

@@ -9,6 +9,7 @@ use crate::segment::decompress_next_segment;
 // Reads a row, from index `from` of src on, into the first width values of codes, and returns the number of bytes that its segments take. The
 // values stay coded: the delta code is undone only once the row is full, so that a refused row keeps its coded values. Near the end of src
 // another loop reads the rest of the row, so that this one tests the length of src once for each segment.
+// Source and index stay two parameters: `coded_row` has both.
 pub(crate) fn decode_scanline(
     src: &[u8],
     from: usize,

@@ -1,8 +1,10 @@
 // The coded values of a row (FORMAT 4.2). If a slice has the samples of one plane, the row above is read from the slice. The samples of a channel
 // in pixels are copied to an array once, and kept there for the row below.
 // The loops over a row go by an index. With `iter_mut` zipped the proof did not close: of what it wrote only the length is known. With the two rows
-// that are read zipped, and an index for the third, `delta_below` took 0.8 % more instructions and 30 more lines of answers. The slices of a row and
-// of the row above it stay two parameters: the callers have them in different places.
+// that are read zipped, and an index for the third, `delta_below` took 0.8 % more instructions and 30 more lines of answers; with `iter_mut` and
+// `enumerate` `delta_row` took up to 0.5 % more, and still had an index for the row above. The slices of a row and of the row above it stay two
+// parameters: the callers have them in different places. That `codes` is as long as the row stays a fact of three contracts: it is lent to be
+// written, and a struct of it would have to say that it keeps its length.
 ghost use Rattle.std.specs.Prelude.{◌≡◌, ◌+◌, ◌*◌, length};
 ghost use Rattle.rle_format.specs.Delta.{delta_code, zip_with};
 ghost use Rattle.rle_format.specs.Pack.{codes_at};

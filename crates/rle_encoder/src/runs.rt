@@ -38,8 +38,8 @@ fn word(flags: &[u8], at: usize) -> u64
     u64::from_le_bytes(eight)
 }
 
-// Eight flags as one word, in which those that are not V are set. V is 0 or 1: with a const `bool` no contract would bound it, but proofs see that
-// as a number of Rattle's own, and did not close.
+// Eight flags as one word, in which those that are not V are set. V is 0 or 1: with a const `bool` no contract would bound it. That was tried:
+// proofs see such a `bool` as a number of Rattle's own, and did not close.
 fn others<const V: u64>(flags: &[u8], at: usize) -> u64
     requires { (V ≤ 1) × (at + 8 ≤ length flags.now) × Bits flags.now at (at + 8) }
     ensures word { OthersWord V flags.now at result }

@@ -4,8 +4,8 @@
 // rle_scanline_encoder. `count` stands beside `raw`, since a copy of 16 reads behind the bytes that it counts. The array and the index stay two
 // parameters: `Put` takes the index behind as the result of a call.
 // They are the twins of rle_scanline_encoder's, which test for room and stop: with a const parameter for it each contract would have both answers.
-// Control bytes are made by `as`: both halves are at most 15, which TryFrom would test again. rle_decoder's `copy_16` is private, so that decoder and
-// encoder stay apart.
+// Control bytes are made by `as`: both halves are at most 15, which TryFrom would test again. The copy of 16 bytes stays beside
+// rle_decoder's `copy_16`: decoder and encoder do not use each other.
 ghost use Rattle.std.specs.Prelude.{◌≡◌, ◌+◌, ◌<◌, ◌≤◌, [], ◌∷◌, length, take, drop};
 ghost use Rattle.rle_format.specs.Segment.{segments_bytes};
 ghost use Rattle.rle_format.specs.Pack.{literal, repeat, split_segments, long_run};

@@ -9,6 +9,7 @@ use crate::segment::encode_segment;
 use rle_format::Refusal;
 
 // Writes the last segments of a row: the pending values begin at index `start`, and the value at `last` is repeated up to the end of the row.
+// Indices stay beside their slices, as in segment.rt.
 fn encode_row_end(
     codes: &[u8],
     start: usize,
