@@ -1,3 +1,4 @@
 mod Examples
 mod Compared
 mod Numbers
+mod Cases

@@ -10,12 +10,16 @@ use Rattle.case_lines.specs.declared.report.Answer.{Answer}
 use Rattle.case_lines.specs.declared.report.Answer.TheVariants.{Count, Refused}
 use Rattle.case_lines.specs.declared.report.LineResult.{LineResult}
 use Rattle.case_lines.specs.declared.report.LineResult.TheVariants.{Equal, Different}
+use Rattle.case_lines.specs.Cases.{lines_of, case_after}
 use Rattle.case_lines.specs.Counts.{count_of, next_of_number, next_of_answer, next_of_bytes}
 use Rattle.case_lines.specs.Fields.{to_read, field_at, as_meant, number_at, numbers_from, answer_in}
 use Rattle.case_lines.specs.Layouts.{layout_of, flag_of}
 use Rattle.case_lines.specs.Results.{guard, answer_of, case_result_of}
 
 pub data Example : Type 0 where
+  -- a text, and its lines, and the next case of it: how many comments come before it, its line, and the lines after it
+  has_lines : (text : List ℕ) → List (List ℕ) → Example
+  has_case : (text : List ℕ) → Option (ℕ × (List ℕ × List (List ℕ))) → Example
   -- fields of a line of ten bytes, each with what is left of the line, and the numbers that contracts speak of
   number_read : Option (ℕ × Bor (List ℕ)) → (next : ℕ) → Example
   answer_read : Option (Answer × Bor (List ℕ)) → (next : ℕ) → Example
@@ -39,8 +43,10 @@ pub data Example : Type 0 where
   -- two answers, what else was compared, and the result
   compares : (expected got : Answer) (header_equal bytes_equal guards_unchanged : Bool) → LineResult → Example
 
--- numbers, what a line has, a layout, a flag, an answer or a result
+-- lines, a case, numbers, what a line has, a layout, a flag, an answer or a result
 pub data Meaning : Type 0 where
+  lines : List (List ℕ) → Meaning
+  case_meant : Option (ℕ × (List ℕ × List (List ℕ))) → Meaning
   field : Option (List ℕ × List ℕ) → Meaning
   number_meant : Option (ℕ × List ℕ) → Meaning
   answer_meant : Option (Answer × List ℕ) → Meaning
@@ -61,6 +67,8 @@ left n = record { ref_ptr = (0, 0); now = replicate n 0x20 }
 
 -- what the definitions compute
 abbrev pub computed : Example → Meaning
+computed (has_lines bs ls) = lines (lines_of bs)
+computed (has_case bs c) = case_meant (case_after 0 (lines_of bs))
 computed (number_read n next) = numbers (next_of_number line n ∷ [])
 computed (answer_read a next) = numbers (next_of_answer line a ∷ [])
 computed (bytes_read b count next) = numbers (count_of b ∷ next_of_bytes line b ∷ [])
@@ -78,6 +86,8 @@ computed (compares e g header bs gs r) = result (case_result_of e g header bs gs
 
 -- what is expected
 abbrev pub expected : Example → Meaning
+expected (has_lines bs ls) = lines ls
+expected (has_case bs c) = case_meant c
 expected (number_read n next) = numbers (next ∷ [])
 expected (answer_read a next) = numbers (next ∷ [])
 expected (bytes_read b count next) = numbers (count ∷ next ∷ [])
@@ -97,11 +107,23 @@ expected (compares e g header bs gs r) = result r
 abbrev pub different : (expected got : Answer) (header_equal bytes_equal guards_unchanged : Bool) → LineResult
 different e g header bs gs = Different (record { expected = e; got = g; header_equal = header; slices = record { bytes_equal = bs; guards_unchanged = gs } })
 
--- fields that were read, and malformed ones; fields that end with a space, with a newline, and with nothing; the largest number, and one more; the four layouts, and two numbers that mean none; the two flags, and two numbers that mean none; the
+-- an empty text, a line with a newline and one without, two lines, an empty line before one; a case after no comment, after two, an empty line, one
+-- without a newline, and texts without one; fields that were read, and malformed ones; fields that end with a space, with a newline, and with nothing; the largest number, and one more; the four layouts, and two numbers that mean none; the two flags, and two numbers that mean none; the
 -- guard bytes; a count and two refusals; a case with everything as expected, and five with one difference each
 abbrev pub examples : List Example
 examples =
-    number_read (Some (3, left 3)) 7
+    has_lines [] []
+    ∷ has_lines (49 ∷ 10 ∷ []) ((49 ∷ 10 ∷ []) ∷ [])
+    ∷ has_lines (49 ∷ 50 ∷ []) ((49 ∷ 50 ∷ []) ∷ [])
+    ∷ has_lines (49 ∷ 10 ∷ 50 ∷ 51 ∷ 10 ∷ []) ((49 ∷ 10 ∷ []) ∷ (50 ∷ 51 ∷ 10 ∷ []) ∷ [])
+    ∷ has_lines (10 ∷ 49 ∷ []) ((10 ∷ []) ∷ (49 ∷ []) ∷ [])
+    ∷ has_case (49 ∷ 10 ∷ 50 ∷ 10 ∷ 51 ∷ []) (Some (0, (49 ∷ 10 ∷ [], (50 ∷ 10 ∷ []) ∷ (51 ∷ []) ∷ [])))
+    ∷ has_case (35 ∷ 49 ∷ 10 ∷ 35 ∷ 10 ∷ 50 ∷ 10 ∷ 35 ∷ 10 ∷ []) (Some (2, (50 ∷ 10 ∷ [], (35 ∷ 10 ∷ []) ∷ [])))
+    ∷ has_case (10 ∷ 49 ∷ 10 ∷ []) (Some (0, (10 ∷ [], (49 ∷ 10 ∷ []) ∷ [])))
+    ∷ has_case (35 ∷ 10 ∷ 49 ∷ 35 ∷ []) (Some (1, (49 ∷ 35 ∷ [], [])))
+    ∷ has_case [] None
+    ∷ has_case (35 ∷ 49 ∷ 10 ∷ 35 ∷ []) None
+    ∷ number_read (Some (3, left 3)) 7
     ∷ number_read None 0
     ∷ answer_read (Some (Count 3, left 3)) 7
     ∷ answer_read None 0

@@ -1,3 +1,4 @@
+pub mod Cases
 pub mod Counts
 pub mod Fields
 pub mod Layouts

@@ -1,5 +1,7 @@
 // A data file: loaded completely, its cases replayed one after the other, and its tally printed after the last one.
-ghost use Rattle.std.specs.Prelude.{◌≤◌, length, IfOk, IfSome};
+ghost use Rattle.std.specs.Prelude.{◌≡◌, ◌+◌, ◌≤◌, ◌<◌, ◌∷◌, ◌++◌, eqb, length, position, IfOk, IfSome, option_map};
+ghost use Rattle.case_lines.specs.Cases.{lines_of, case_after};
+ghost use Rattle.case_lines.specs.Counts.{IsRest};
 
 use crate::report::{LineResult, Report};
 use std::fs;
@@ -71,12 +73,68 @@ fn read_full(file: &mut impl Read, buffer: &mut [u8]) -> usize
     size
 }
 
-// Replays the cases of a text: its lines that are no comments, each with its newline.
-fn replay_text<P: Print>(text: &[u8], kind: &impl Replay, mut report: Report<'_, P>) {
-    for (index, line) in text.split_inclusive(|byte| *byte == b'\n').enumerate() {
+// The next case of what is left of a text: how many comments come before it, its line with the newline, which the last line of a text may lack, and
+// what is left of the text behind it.
+#[derive(Clone, Copy)]
+pub struct NextCase<'a> {
+    pub comments: usize,
+    pub line: &'a [u8],
+    pub rest: &'a [u8],
+}
+
+// The first line that is no comment, or None if there is none. What is left begins where the line ends, so no case is replayed twice. A `for` over
+// std's `split_inclusive` would not know what is left behind a line.
+pub fn next_case(text: &[u8]) -> Option<NextCase<'_>>
+    ensures meaning { option_map (λ c. (c.comments, (c.line.now, lines_of c.rest.now))) result ≡ case_after 0 (lines_of text.now) }
+    ensures parts { IfSome result (λ c. IsRest text.now (c.line.now ++ c.rest.now) × (0 < length c.line.now)) }
+    ensures bound { IfSome result (λ c. c.comments + length c.line.now + length c.rest.now ≤ length text.now) }
+{
+    let mut comments = 0;
+    let mut rest = text;
+    while !rest.is_empty() {
+        let (line, after) = split_line(rest);
         if !line.starts_with(b"#") {
-            report.add(index + 1, kind.replay(line));
+            return Some(NextCase {
+                comments,
+                line,
+                rest: after,
+            });
         }
+        comments += 1;
+        rest = after;
+    }
+    None
+}
+
+// The first line of a text, with its newline, and what is left of the text behind it.
+fn split_line(text: &[u8]) -> (&[u8], &[u8])
+    requires { 0 < length text.now }
+    ensures lines { lines_of text.now ≡ result.0.now ∷ lines_of result.1.now }
+    ensures parts { (text.now ≡ result.0.now ++ result.1.now) × (0 < length result.0.now) }
+{
+    match newline(text) {
+        Some(end) => text.split_at(end + 1),
+        None => (text, [].as_slice()),
+    }
+}
+
+// The index of the newline that ends the first line of a text, if it has one.
+fn newline(text: &[u8]) -> Option<usize>
+    ensures value { result ≡ position (λ byte. eqb byte 10) text.now }
+    ensures bound { IfSome result (λ end. end < length text.now) }
+{
+    text.iter().position(|byte| *byte == b'\n')
+}
+
+// Replays the cases of a text. The number of a line counts the comments before it too. Each case says what is left behind it, so no `for` goes over
+// them.
+fn replay_text<P: Print>(text: &[u8], kind: &impl Replay, mut report: Report<'_, P>) {
+    let mut number = 0;
+    let mut rest = text;
+    while let Some(case) = next_case(rest) {
+        number += case.comments + 1;
+        report.add(number, kind.replay(case.line));
+        rest = case.rest;
     }
     report.finish();
 }
