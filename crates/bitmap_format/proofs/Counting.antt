@@ -59,7 +59,7 @@ unfolding counter_step
 step_odd false step n h = refl
 step_odd true step n h = rw (ne_eqb (n % 2) 0 h)
 
--- `even` is the step behind an even number. Nothing cites it now; it stays, since docs/ARCHITECTURE.md named it.
+-- `even` is the step behind an even number
 pub step_by_parity : (s : Bool) (step n even : ℕ) → even ≡ choose s 0 step → counter_step s step n ≡ choose (eqb (n % 2) 0) even step
 unfolding counter_step
 step_by_parity true step n even e = ap (λ (k : ℕ). choose (eqb (n % 2) 0) k step) (sym e)

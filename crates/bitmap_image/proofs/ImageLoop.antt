@@ -3,7 +3,7 @@ use Prim.Native.Nat.{ℕ, suc, ◌+◌, ◌*◌, ◌%◌, ◌<◌, ◌≤◌}
 use mathlib.Core.Bool.{Bool, true, false, ◌&&◌}
 use mathlib.Core.Path.{◌≡◌, refl, sym, ap, ◌∙◌}
 use mathlib.Core.List.{List}
-use native.Mathlib.Nat.{suc-mul, mul-le-mul, mul-le-mul_right, mul_comm, zero-add}
+use native.Mathlib.Nat.{zero-mul, suc-mul, mul-le-mul, mul-le-mul_right, mul_comm, zero-add}
 use native.Mathlib.Numerals.{add-one}
 use native.Mathlib.Omega.{arith}
 use lib.Dec.{eqb}
@@ -54,7 +54,7 @@ module _ (planes : List ℕ) (s : Bool) (width height row cw ch second third : �
       (start_is s width (width * height + cw * ch) row third et ∙ (λ i. width * height + ew i * eh i + chroma_index s row * chroma_side_of s width))
 
 -- where a chroma row starts in another plane, `size` samples behind
-chroma_behind : (s : Bool) (width offset row start size : ℕ) → IsChromaStart s width offset row start → IsChromaStart s width (offset + size) row (start + size)
+pub chroma_behind : (s : Bool) (width offset row start size : ℕ) → IsChromaStart s width offset row start → IsChromaStart s width (offset + size) row (start + size)
 chroma_behind s width offset row start size e = omega (arith, e)
 
 -- a row of pixels
@@ -77,16 +77,24 @@ suffix_row_is form (AYCoCg level s) flagged planes alpha width height row step c
     (second_is planes s width height row cw ch second third ew eh es et (chroma_index s column) i)
     (third_is planes s width height row cw ch second third ew eh es et (chroma_index s column) i)) (suffix_at alpha (row * step) column i))
 
--- the same for rows that a call gave: first, second and third
-pub row_is : (form : PixelForm) (d : ColorPlaneDefinition) (flagged : Bool) (planes alpha : List ℕ) (width height row step start : ℕ) (first second third : List ℕ)
-    → IsChromaStart (subsampled d) width (width * height) row start → first ≡ drop (row * width) planes → second ≡ drop start planes
-    → third ≡ drop (start + chroma_side_of (subsampled d) width * chroma_side_of (subsampled d) height) planes
-    → row_pixels form d flagged first second third (suffix alpha (row * step)) width ≡ row_with form d flagged width height planes alpha step row
-row_is form d flagged planes alpha width height row step start first second third counted ef es et =
-    let size : ℕ = chroma_side_of (subsampled d) width * chroma_side_of (subsampled d) height in
-    (λ i. row_pixels form d flagged ((ef ∙ sym (suffix_drop planes (row * width))) i) ((es ∙ sym (suffix_drop planes start)) i) ((et ∙ sym (suffix_drop planes (start + size))) i) (suffix alpha (row * step)) width)
-    ∙ suffix_row_is form d flagged planes alpha width height row step (chroma_side_of (subsampled d) width) (chroma_side_of (subsampled d) height) start (start + size) refl refl counted
-    (chroma_behind (subsampled d) width (width * height) row start size counted)
+-- the same for rows that a call gave
+pub row_is : (form : PixelForm) (d : ColorPlaneDefinition) (flagged : Bool) (planes alpha : List ℕ) (width height row step second third : ℕ) (first_row second_row third_row : List ℕ)
+    → IsChromaStart (subsampled d) width (width * height) row second
+    → IsChromaStart (subsampled d) width (width * height + chroma_side_of (subsampled d) width * chroma_side_of (subsampled d) height) row third
+    → first_row ≡ drop (row * width) planes → second_row ≡ drop second planes → third_row ≡ drop third planes
+    → row_pixels form d flagged first_row second_row third_row (suffix alpha (row * step)) width ≡ row_with form d flagged width height planes alpha step row
+row_is form d flagged planes alpha width height row step second third first_row second_row third_row counted counted_third ef es et =
+    (λ i. row_pixels form d flagged ((ef ∙ sym (suffix_drop planes (row * width))) i) ((es ∙ sym (suffix_drop planes second)) i) ((et ∙ sym (suffix_drop planes third)) i) (suffix alpha (row * step)) width)
+    ∙ suffix_row_is form d flagged planes alpha width height row step (chroma_side_of (subsampled d) width) (chroma_side_of (subsampled d) height) second third refl refl counted counted_third
+
+-- ---- where rows start
+
+-- the rows of the image, `pitch` bytes apart
+pub index_first : (pitch : ℕ) → 0 ≡ 0 * pitch
+index_first pitch = sym (zero-mul pitch)
+
+pub index_next : (row pitch to : ℕ) → to ≡ row * pitch → to + pitch ≡ (row + 1) * pitch
+index_next row pitch to e = ap (λ (k : ℕ). k + pitch) e ∙ sym (suc-mul row pitch) ∙ ap (λ (k : ℕ). k * pitch) (sym (add-one row))
 
 -- ---- the room of a row
 
@@ -102,15 +110,20 @@ chroma_row_within s width height row start lr es =
     let within = row_within (chroma_index s row) (chroma_side_of s width) (chroma_side_of s height) (place_below s row height lr) in
     omega (arith, within, start_is s width (width * height) row start es)
 
--- and so does the next one, as an index
-pub next_start_small : (s : Bool) (width height row start : ℕ) → width ≤ 8192 → height ≤ 8192 → row < height → IsChromaStart s width (width * height) row start
-    → start + counter_step s (chroma_side_of s width) row ≤ 536870912
-unfolding counter_step
-next_start_small s width height row start lw lh lr es =
+-- the planes before the third are small
+pub third_start_small : (s : Bool) (width height : ℕ) → width ≤ 8192 → height ≤ 8192 → width * height + chroma_side_of s width * chroma_side_of s height ≤ 134217728
+third_start_small s width height lw lh =
     let most : width * height ≤ 67108864 = area_max width height lw lh in
     let chroma_most : chroma_side_of s width * chroma_side_of s height ≤ 67108864 =
     area_max (chroma_side_of s width) (chroma_side_of s height) (omega (arith, chroma_side-max s width)) (omega (arith, chroma_side-max s height)) in
-    omega (arith, chroma_row_within s width height row start lr es, step_most s (chroma_side_of s width) row)
+    omega arith
+
+-- so the next chroma row is small as an index, in the third plane too
+pub next_start_small : (s : Bool) (width height row start : ℕ) → width ≤ 8192 → height ≤ 8192 → row < height → IsChromaStart s width (width * height) row start
+    → start + chroma_side_of s width * chroma_side_of s height + counter_step s (chroma_side_of s width) row ≤ 536870912
+unfolding counter_step
+next_start_small s width height row start lw lh lr es =
+    omega (arith, third_start_small s width height lw lh, chroma_row_within s width height row start lr es, step_most s (chroma_side_of s width) row)
   where
     step_most : (s : Bool) (step n : ℕ) → counter_step s step n ≤ step
     step_most s step n = go (s && eqb (n % 2) 0)
@@ -118,6 +131,12 @@ next_start_small s width height row start lw lh lr es =
         go : (t : Bool) → choose t 0 step ≤ step
         go true = omega arith
         go false = omega arith
+
+-- the row of the first plane lies within planes of `len` samples
+pub first_row_within : (s : Bool) (width height len row : ℕ) → sum_over sample_count_of (colour_planes s width height) ≤ len → row < height → row * width + width ≤ len
+first_row_within s width height len row l lr =
+    let all : width * height + 2 * (chroma_side_of s width * chroma_side_of s height) ≤ len = rw (colour_sum_sides false s width height) at l in
+    omega (arith, row_within row width height lr)
 
 -- where the rows of the planes are, for a row whose chroma row starts at `start`: cw and ch are the sides of a chroma plane, len the length of the planes
 pub record RowPlaces (width row start cw ch len : ℕ) : Type 0 where

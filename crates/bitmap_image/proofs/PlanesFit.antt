@@ -3,13 +3,14 @@ use Prim.Native.Nat.{ℕ, ◌≤◌, ◌<◌}
 use mathlib.Core.Bool.{Bool, true, false, not, ◌&&◌, ◌||◌}
 use mathlib.Core.Path.{◌≡◌, refl, sym, ap, ◌∙◌}
 use mathlib.Core.List.{List}
+use native.Mathlib.Omega.{arith}
 use lib.Dec.{leb, ltb, eqb}
 use Rattle.std.specs.Prelude.{Result, Ok, Err}
 use lib.ListN.{length}
 use borrow.Author.Tests.{le-leb, lt-leb, leb-true}
 use Rattle.rle_format.specs.Choice.{choose}
 use Rattle.rle_format.specs.Sides.{check_sides_of, AllowedSides}
-use Rattle.rle_format.proofs.Sides.{check_sides_passes}
+use Rattle.rle_format.proofs.Sides.{are_sides_allowed, allowed_sides, check_sides_passes, check_sides_refuses}
 use Rattle.pixel_format.specs.declared.PixelFormat.{PixelFormat}
 use Rattle.bitmap_format.specs.declared.BitmapStreamHeader.{BitmapStreamHeader}
 use Rattle.bitmap_format.specs.Pixels.{PixelForm, shown_alpha_size_of}
@@ -55,13 +56,36 @@ module _ (format : PixelFormat) (header : BitmapStreamHeader) (w h : ℕ) where
       go false false true true true true e = refl
       go false false false i p s e = absurd cc
 
+-- ---- the checks, one after the other
+
+module _ (form : PixelForm) (header : BitmapStreamHeader) (w h planes alpha image : ℕ) where
+  abbrev valid : Bool
+  valid = not (is_loss_level_invalid_of header.color_plane_definition)
+
+  pub unfit_sides : are_sides_allowed w h ≡ false → false ≡ planes_fit form header w h planes alpha image
+  unfolding planes_fit
+  unfit_sides e = sym (check_sides_refuses false w h _ e)
+
+  module _ (s : AllowedSides w h) where
+    inside : planes_fit form header w h planes alpha image
+        ≡ (leb (image_size_of form w h) image && (leb (colour_planes_size header w h) planes && (leb (shown_alpha_size_of form header.use_alpha w h) alpha && valid)))
+    unfolding planes_fit
+    inside = check_sides_passes (λ (_ : ℕ). false) w h _ s
+
+    pub unfit_image : image < image_size_of form w h → false ≡ planes_fit form header w h planes alpha image
+    unfit_image l = sym (inside ∙ simp (lt-leb (image_size_of form w h) image l))
+
+    module _ (li : image_size_of form w h ≤ image) where
+      pub unfit_planes : planes < colour_planes_size header w h → false ≡ planes_fit form header w h planes alpha image
+      unfit_planes l = sym (inside ∙ simp (le-leb (image_size_of form w h) image li, lt-leb (colour_planes_size header w h) planes l))
+
 -- ---- the sizes of a picture that passed
 
-module _ (form : PixelForm) (header : BitmapStreamHeader) (w h planes alpha image : ℕ) (sides : AllowedSides w h) (level : is_loss_level_invalid_of header.color_plane_definition ≡ false) where
-  -- a size as a call gave it
-  size_is : (value size : ℕ) → value ≡ check_sides_of (λ (_ : ℕ). 0) w h size → value ≡ size
-  size_is value size e = e ∙ check_sides_passes (λ (_ : ℕ). 0) w h size sides
+-- a size as a call gave it
+pub size_is : (w h : ℕ) (sides : AllowedSides w h) (value size : ℕ) → value ≡ check_sides_of (λ (_ : ℕ). 0) w h size → value ≡ size
+size_is w h sides value size e = e ∙ check_sides_passes (λ (_ : ℕ). 0) w h size sides
 
+module _ (form : PixelForm) (header : BitmapStreamHeader) (w h planes alpha image : ℕ) (sides : AllowedSides w h) (level : is_loss_level_invalid_of header.color_plane_definition ≡ false) where
   fit_by_tests : planes_fit form header w h planes alpha image ≡ (leb (image_size_of form w h) image && (leb (colour_planes_size header w h) planes && leb (shown_alpha_size_of form header.use_alpha w h) alpha))
   unfolding planes_fit
   fit_by_tests =
@@ -77,23 +101,17 @@ module _ (form : PixelForm) (header : BitmapStreamHeader) (w h planes alpha imag
     tested_image : (t : Bool) → leb size image ≡ t → planes_fit form header w h planes alpha image ≡ (t && (leb (colour_planes_size header w h) planes && leb (shown_alpha_size_of form header.use_alpha w h) alpha))
     tested_image t e =
         fit_by_tests
-        ∙ ap (λ (b : Bool). b && (leb (colour_planes_size header w h) planes && leb (shown_alpha_size_of form header.use_alpha w h) alpha)) (ap (λ (k : ℕ). leb k image) (sym (size_is size _ es)) ∙ e)
-
-    pub unfit_image : image < size → planes_fit form header w h planes alpha image ≡ false
-    unfit_image l = tested_image false (lt-leb size image l)
+        ∙ ap (λ (b : Bool). b && (leb (colour_planes_size header w h) planes && leb (shown_alpha_size_of form header.use_alpha w h) alpha)) (ap (λ (k : ℕ). leb k image) (sym (size_is w h sides size _ es)) ∙ e)
 
     module _ (l : size ≤ image) (colours : ℕ) (ec : colours ≡ check_sides_of (λ (_ : ℕ). 0) w h (colour_planes_size header w h)) where
       tested_planes : (t : Bool) → leb colours planes ≡ t → planes_fit form header w h planes alpha image ≡ (t && leb (shown_alpha_size_of form header.use_alpha w h) alpha)
       tested_planes t e =
           tested_image true (le-leb size image l)
-          ∙ ap (λ (b : Bool). b && leb (shown_alpha_size_of form header.use_alpha w h) alpha) (ap (λ (k : ℕ). leb k planes) (sym (size_is colours _ ec)) ∙ e)
-
-      pub unfit_planes : leb colours planes ≡ false → planes_fit form header w h planes alpha image ≡ false
-      unfit_planes e = tested_planes false e
+          ∙ ap (λ (b : Bool). b && leb (shown_alpha_size_of form header.use_alpha w h) alpha) (ap (λ (k : ℕ). leb k planes) (sym (size_is w h sides colours _ ec)) ∙ e)
 
       pub fit_by_alpha : leb colours planes ≡ true → (shown : ℕ) → shown ≡ check_sides_of (λ (_ : ℕ). 0) w h (shown_alpha_size_of form header.use_alpha w h)
           → planes_fit form header w h planes alpha image ≡ leb shown alpha
-      fit_by_alpha e shown ea = tested_planes true e ∙ ap (λ (k : ℕ). leb k alpha) (sym (size_is shown _ ea))
+      fit_by_alpha e shown ea = tested_planes true e ∙ ap (λ (k : ℕ). leb k alpha) (sym (size_is w h sides shown _ ea))
 
 -- ---- what is known once all pass
 
@@ -104,22 +122,34 @@ pub record PlanesKnown (form : PixelForm) (header : BitmapStreamHeader) (w h pla
   pub alpha_room : shown_alpha_size_of form header.use_alpha w h ≤ alpha
   pub loss : is_loss_level_invalid_of header.color_plane_definition ≡ false
 
-module _ (form : PixelForm) (header : BitmapStreamHeader) (w h planes alpha image : ℕ) (sides : AllowedSides w h) (level : is_loss_level_invalid_of header.color_plane_definition ≡ false) where
+module _ (form : PixelForm) (header : BitmapStreamHeader) (w h planes alpha image : ℕ) where
   pub planes_known : planes_fit form header w h planes alpha image ≡ true → PlanesKnown form header w h planes alpha image
-  planes_known e = go (leb (image_size_of form w h) image) (leb (colour_planes_size header w h) planes) (leb (shown_alpha_size_of form header.use_alpha w h) alpha) refl refl refl (sym (fit_by_tests form header w h planes alpha image sides level) ∙ e)
+  planes_known e = by_sides (are_sides_allowed w h) refl
     where
-      go : (a b c : Bool) → leb (image_size_of form w h) image ≡ a → leb (colour_planes_size header w h) planes ≡ b → leb (shown_alpha_size_of form header.use_alpha w h) alpha ≡ c → (a && (b && c)) ≡ true
+      by_checks : AllowedSides w h → (a b c d : Bool) → leb (image_size_of form w h) image ≡ a → leb (colour_planes_size header w h) planes ≡ b
+          → leb (shown_alpha_size_of form header.use_alpha w h) alpha ≡ c → is_loss_level_invalid_of header.color_plane_definition ≡ d → (a && (b && (c && not d))) ≡ true
           → PlanesKnown form header w h planes alpha image
-      go false b c ea eb ec e = absurd cc
-      go true false c ea eb ec e = absurd cc
-      go true true false ea eb ec e = absurd cc
-      go true true true ea eb ec e = record {
-        sides = sides;
+      by_checks s false b c d ea eb ec ed e = let z : ◌≡◌ {A = ℕ} 0 1 = cc in absurd (omega arith)
+      by_checks s true false c d ea eb ec ed e = let z : ◌≡◌ {A = ℕ} 0 1 = cc in absurd (omega arith)
+      by_checks s true true false d ea eb ec ed e = let z : ◌≡◌ {A = ℕ} 0 1 = cc in absurd (omega arith)
+      by_checks s true true true true ea eb ec ed e = let z : ◌≡◌ {A = ℕ} 0 1 = cc in absurd (omega arith)
+      by_checks s true true true false ea eb ec ed e = record {
+        sides = s;
         image_room = leb-true (image_size_of form w h) image ea;
         planes_room = leb-true (colour_planes_size header w h) planes eb;
         alpha_room = leb-true (shown_alpha_size_of form header.use_alpha w h) alpha ec;
-        loss = level;
+        loss = ed;
       }
+
+      by_sides : (t : Bool) → are_sides_allowed w h ≡ t → PlanesKnown form header w h planes alpha image
+      by_sides false et =
+          let no : true ≡ false = sym e ∙ sym (unfit_sides form header w h planes alpha image et) in
+          let z : ◌≡◌ {A = ℕ} 0 1 = cc in
+          absurd (omega arith)
+      by_sides true et =
+          let s = allowed_sides w h et in
+          by_checks s (leb (image_size_of form w h) image) (leb (colour_planes_size header w h) planes) (leb (shown_alpha_size_of form header.use_alpha w h) alpha) (is_loss_level_invalid_of header.color_plane_definition) refl refl refl refl
+          (sym (inside form header w h planes alpha image s) ∙ e)
 
 -- ---- the image
 

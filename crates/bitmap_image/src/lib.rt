@@ -18,7 +18,7 @@ use bitmap_format::{
     shown_alpha_size,
 };
 use pixel_format::{PixelFormat, PixelLayout};
-use planes::{ColorPlanes, ShownPlanes};
+use planes::{ColorPlanes, ShownPlanes, chroma_sizes};
 use rgb24::write_rgb24_rows;
 use rle_format::MAX_SIDE;
 use rows::write_pixel_rows;
@@ -111,7 +111,12 @@ pub fn write_planes(
     if !has_planes(picture, planes.len(), alpha.len(), image.len()) {
         return;
     }
-    let colors = ColorPlanes { picture, planes };
+    let chroma = chroma_sizes(picture);
+    let colors = ColorPlanes {
+        picture,
+        planes,
+        chroma,
+    };
     let PixelFormat::FourBytes(layout) = picture.format else {
         write_rgb24_rows(colors, image);
         return;

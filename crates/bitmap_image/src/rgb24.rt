@@ -9,7 +9,7 @@ use bitmap_format::Picture;
 use bitmap_rows::{ColorRule, write_rgb24_row};
 
 // Writes the rows of the image.
-// rows.rt says why the loop stays, and why `second` is counted.
+// rows.rt says why the loop stays, and why the starts of the chroma rows are counted.
 pub(crate) fn write_rgb24_rows(planes: ColorPlanes<'_>, image: &mut [u8])
     requires { image_size_of three_bytes planes.picture.width planes.picture.height ≤ length image.old }
     ensures { image.new ≡ write_rows (row_size three_bytes planes.entry.picture.width) (image_row three_bytes planes.entry.picture.header.color_plane_definition planes.entry.picture.header.use_alpha planes.entry.picture.width planes.entry.picture.height planes.entry.planes.now []) planes.entry.picture.height image.old }
@@ -25,10 +25,15 @@ pub(crate) fn write_rgb24_rows(planes: ColorPlanes<'_>, image: &mut [u8])
         flagged: header.use_alpha,
     };
     let size = 3 * width;
+    let mut to = 0;
     let mut second = width * height;
+    let mut third = second + planes.chroma.size;
     for row in 0..height {
-        let samples = planes.row_samples(row, second);
-        write_rgb24_row(rule, samples, &mut image[row * size..], width);
-        second += planes.chroma_step(row);
+        let samples = planes.row_samples(row, second, third);
+        write_rgb24_row(rule, samples, &mut image[to..], width);
+        let step = planes.chroma_step(row);
+        second += step;
+        third += step;
+        to += size;
     }
 }

@@ -74,19 +74,21 @@ pub(crate) fn write_pixel_rows(
         flagged: header.use_alpha,
     };
     let size = 4 * width;
+    let mut to = 0;
     let mut second = width * height;
     for row in 0..height {
-        let samples = colors.row_samples(row, second);
+        let samples = colors.row_samples(row, second, second + colors.chroma.size);
         write_row(
             layout,
             rule,
             samples,
             &alpha[row * step..],
-            &mut image[row * size..],
+            &mut image[to..],
             width,
             co,
             cg,
         );
         second += colors.chroma_step(row);
+        to += size;
     }
 }

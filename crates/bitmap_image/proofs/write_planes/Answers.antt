@@ -29,39 +29,43 @@ invariant_of-colors c =
     let a = c.args in
     let p = c.in-Ok.picture in
     let k =
-    planes_known (format_to_form p.format) p.header p.width p.height (length a.planes.now) (length a.alpha.now) (length a.image.now) p.allowed p.level (sym c.if-not-has_planes.ensures) in
-    record { room = k.planes_room }
+    planes_known (format_to_form p.format) p.header p.width p.height (length a.planes.now) (length a.alpha.now) (length a.image.now) (sym c.if-not-has_planes.ensures) in
+    let sizes = c.chroma_sizes-chroma.ensures in
+    record { room = k.planes_room; chroma_width = sizes.0; chroma_size = sizes.1; chroma_even = sizes.2 }
 
 pub invariant_of-colors-then-picture : goal.invariant_of-colors-then-picture
 invariant_of-colors-then-picture c =
     let a = c.args in
     let p = c.in-Ok.picture in
     let k =
-    planes_known (format_to_form p.format) p.header p.width p.height (length a.planes.now) (length a.alpha.now) (length a.image.now) p.allowed p.level (sym c.if-not-has_planes.ensures) in
-    record { room = k.planes_room }
+    planes_known (format_to_form p.format) p.header p.width p.height (length a.planes.now) (length a.alpha.now) (length a.image.now) (sym c.if-not-has_planes.ensures) in
+    let sizes = c.chroma_sizes-chroma.ensures in
+    record { room = k.planes_room; chroma_width = sizes.0; chroma_size = sizes.1; chroma_even = sizes.2 }
 
 pub invariant_of-colors-then-picture-le-NARROW_WIDTH : goal.invariant_of-colors-then-picture-le-NARROW_WIDTH
 invariant_of-colors-then-picture-le-NARROW_WIDTH c =
     let a = c.args in
     let p = c.in-Ok.picture in
     let k =
-    planes_known (format_to_form p.format) p.header p.width p.height (length a.planes.now) (length a.alpha.now) (length a.image.now) p.allowed p.level (sym c.if-not-has_planes.ensures) in
-    record { room = k.planes_room }
+    planes_known (format_to_form p.format) p.header p.width p.height (length a.planes.now) (length a.alpha.now) (length a.image.now) (sym c.if-not-has_planes.ensures) in
+    let sizes = c.chroma_sizes-chroma.ensures in
+    record { room = k.planes_room; chroma_width = sizes.0; chroma_size = sizes.1; chroma_even = sizes.2 }
 
 pub invariant_of-colors-else-picture-le-NARROW_WIDTH : goal.invariant_of-colors-else-picture-le-NARROW_WIDTH
 invariant_of-colors-else-picture-le-NARROW_WIDTH c =
     let a = c.args in
     let p = c.in-Ok.picture in
     let k =
-    planes_known (format_to_form p.format) p.header p.width p.height (length a.planes.now) (length a.alpha.now) (length a.image.now) p.allowed p.level (sym c.if-not-has_planes.ensures) in
-    record { room = k.planes_room }
+    planes_known (format_to_form p.format) p.header p.width p.height (length a.planes.now) (length a.alpha.now) (length a.image.now) (sym c.if-not-has_planes.ensures) in
+    let sizes = c.chroma_sizes-chroma.ensures in
+    record { room = k.planes_room; chroma_width = sizes.0; chroma_size = sizes.1; chroma_even = sizes.2 }
 
 pub write_rgb24_rows-requires : goal.write_rgb24_rows-requires
 write_rgb24_rows-requires c =
     let a = c.args in
     let p = c.in-Ok.picture in
     let k =
-    planes_known (format_to_form p.format) p.header p.width p.height (length a.planes.now) (length a.alpha.now) (length a.image.now) p.allowed p.level (sym c.if-not-has_planes.ensures) in
+    planes_known (format_to_form p.format) p.header p.width p.height (length a.planes.now) (length a.alpha.now) (length a.image.now) (sym c.if-not-has_planes.ensures) in
     image_of p.format Rgb24 p.width p.height _ c.in_default-format.is k.image_room
 
 pub invariant_of-shown : goal.invariant_of-shown
@@ -69,7 +73,7 @@ invariant_of-shown c =
     let a = c.args in
     let p = c.in-Ok.picture in
     let k =
-    planes_known (format_to_form p.format) p.header p.width p.height (length a.planes.now) (length a.alpha.now) (length a.image.now) p.allowed p.level (sym c.if-not-has_planes.ensures) in
+    planes_known (format_to_form p.format) p.header p.width p.height (length a.planes.now) (length a.alpha.now) (length a.image.now) (sym c.if-not-has_planes.ensures) in
     record { small = p.allowed.wide; rows = plane_rows_fit p.header.use_alpha p.format c.in-FourBytes.layout p.width p.height _ c.in-FourBytes.is c.if-picture.true k.alpha_room }
 
 pub write_with_alpha-requires : goal.write_with_alpha-requires
@@ -77,7 +81,7 @@ write_with_alpha-requires c =
     let a = c.args in
     let p = c.in-Ok.picture in
     let k =
-    planes_known (format_to_form p.format) p.header p.width p.height (length a.planes.now) (length a.alpha.now) (length a.image.now) p.allowed p.level (sym c.if-not-has_planes.ensures) in
+    planes_known (format_to_form p.format) p.header p.width p.height (length a.planes.now) (length a.alpha.now) (length a.image.now) (sym c.if-not-has_planes.ensures) in
     image_of p.format (FourBytes c.in-FourBytes.layout) p.width p.height _ c.in-FourBytes.is k.image_room
 
 pub write_opaque-requires : goal.write_opaque-requires
@@ -85,7 +89,7 @@ write_opaque-requires c =
     let a = c.args in
     let p = c.in-Ok.picture in
     let k =
-    planes_known (format_to_form p.format) p.header p.width p.height (length a.planes.now) (length a.alpha.now) (length a.image.now) p.allowed p.level (sym c.if-not-has_planes.ensures) in
+    planes_known (format_to_form p.format) p.header p.width p.height (length a.planes.now) (length a.alpha.now) (length a.image.now) (sym c.if-not-has_planes.ensures) in
     (c.if-picture.false, c.if-picture-le-NARROW_WIDTH.true, omega arith, image_of p.format (FourBytes c.in-FourBytes.layout) p.width p.height _ c.in-FourBytes.is k.image_room)
 
 pub write_opaque-requires-else-picture-le-NARROW_WIDTH : goal.write_opaque-requires-else-picture-le-NARROW_WIDTH
@@ -93,7 +97,7 @@ write_opaque-requires-else-picture-le-NARROW_WIDTH c =
     let a = c.args in
     let p = c.in-Ok.picture in
     let k =
-    planes_known (format_to_form p.format) p.header p.width p.height (length a.planes.now) (length a.alpha.now) (length a.image.now) p.allowed p.level (sym c.if-not-has_planes.ensures) in
+    planes_known (format_to_form p.format) p.header p.width p.height (length a.planes.now) (length a.alpha.now) (length a.image.now) (sym c.if-not-has_planes.ensures) in
     (c.if-picture.false, p.allowed.wide, omega arith, image_of p.format (FourBytes c.in-FourBytes.layout) p.width p.height _ c.in-FourBytes.is k.image_room)
 
 pub returns-in_default-format : goal.returns-in_default-format
