@@ -1,6 +1,7 @@
 // The loss level of a picture that is not refused, and its colours (FORMAT 6.4, 6.5).
 ghost use Rattle.std.specs.Prelude.{◌≡◌, ◌≤◌, pos, negsuc, ◌≤ℤ◌};
 ghost use Rattle.bitmap_format.specs.Colour.{chroma_value_of, clip, ycocg, aycocg_colour};
+ghost use Rattle.bitmap_color.specs.ColourOrBlack.{colour_or_black};
 
 use bitmap_format::Rgb;
 
@@ -27,7 +28,8 @@ impl LossLevel {
     // The colour of a pixel. Without the alpha flag red and blue change places.
     // The samples stay three parameters: each is read from a plane of its own.
     pub fn color(self, alpha: bool, y: u8, co: u8, cg: u8) -> Rgb
-        ensures { result ≡ aycocg_colour alpha self.level y co cg }
+        ensures color { result ≡ aycocg_colour alpha self.level y co cg }
+        ensures shown { result ≡ colour_or_black alpha self.level y co cg }
     {
         let color = ycocg_with_cll_to_rgb(self, y, co, cg);
         if alpha {

@@ -1,6 +1,6 @@
 -- Where the chroma samples of each pixel are, found by counting from pixel to pixel (FORMAT 6.3; document 02, Card 3), and the claim that `chroma_index`
--- gives the same. proofs/Counting.antt has its proof. The invariants of the loops over rows and over columns use these,
--- and the contracts of the private functions that count (bitmap_image/src/planes.rt).
+-- gives the same. proofs/Counting.antt has its proof. The invariants of the loops over rows use these, what the loops over columns require of each
+-- column (bitmap_rows), and the contracts of the private functions that count (bitmap_image/src/planes.rt).
 use Rattle.std.specs.Prelude.{ℕ, zero, suc, ◌+◌, ◌*◌, ◌%◌, ◌<◌, Bool, ◌&&◌, ◌≡◌, eqb, ltb}
 use Rattle.rle_format.specs.Choice.{choose}
 use Rattle.bitmap_format.specs.Planes.{chroma_side_of}
@@ -73,7 +73,7 @@ pub record FoundByCounting (s : Bool) (width height row column : ℕ) : Type 0 w
 abbrev pub ChromaIndexByCounting : Type 0
 ChromaIndexByCounting = (s : Bool) (width height row column : ℕ) → row < height → column < width → FoundByCounting s width height row column
 
--- ---- what the invariants of loops say of a counter
+-- ---- what loops say of a counter
 
 -- it is where the chroma row of a row starts, in a plane that starts at `offset`: the one of the row's first pixel
 abbrev pub IsChromaStart : (subsampling : Bool) (width offset row counter : ℕ) → Type 0

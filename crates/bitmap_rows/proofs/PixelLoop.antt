@@ -103,7 +103,7 @@ pairs_written d₀ d n f e = e ∙ ap (overwrite d₀) (concat_pairs f n)
 -- ---- the columns of chroma samples, by counting (FORMAT 6.3)
 
 -- not subsampled: the next column
-full_next : (column : ℕ) → IsChromaColumn false column column → IsChromaColumn false (column + 1) (column + 1)
+pub full_next : (column : ℕ) → IsChromaColumn false column column → IsChromaColumn false (column + 1) (column + 1)
 full_next column h width row below = column_next false column column h width row below ∙ ap (λ (k : ℕ). column + k) (step_full 1 column)
 
 pub column_counted : (column : ℕ) → IsChromaColumn false column column
@@ -117,7 +117,7 @@ pair_right pair h width row below =
     column_next true (2 * pair) pair h width row below ∙ omega (arith, none)
 
 -- and the column behind both the next
-pair_next : (pair : ℕ) → IsChromaColumn true (2 * pair) pair → IsChromaColumn true (2 * (pair + 1)) (pair + 1)
+pub pair_next : (pair : ℕ) → IsChromaColumn true (2 * pair) pair → IsChromaColumn true (2 * (pair + 1)) (pair + 1)
 pair_next pair h = rw (← behind) next
   where
     behind : 2 * pair + 1 + 1 ≡ 2 * (pair + 1)
@@ -130,7 +130,7 @@ pair_next pair h = rw (← behind) next
     next width row below =
         column_next true (2 * pair + 1) pair (pair_right pair h) width row below ∙ ap (λ (k : ℕ). pair + k) (step_odd true 1 (2 * pair + 1) odd)
 
-pairs_counted : (pairs : ℕ) → IsChromaColumn true (2 * pairs) pairs
+pub pairs_counted : (pairs : ℕ) → IsChromaColumn true (2 * pairs) pairs
 pairs_counted zero = column_first true
 pairs_counted (suc pairs) = rw (← add-one pairs) (pair_next pairs (pairs_counted pairs))
 

@@ -1,7 +1,8 @@
 // A row of three-byte pixels (FORMAT 6.1 to 6.5) that fits its slices.
-ghost use Rattle.std.specs.Prelude.{◌≡◌, true, [], ◌+◌, ◌*◌, ◌<◌, ◌≤◌, length};
+ghost use Rattle.std.specs.Prelude.{◌≡◌, true, false, [], ◌+◌, ◌*◌, ◌<◌, ◌≤◌, length};
 ghost use Rattle.rle_format.specs.Slice.{overwrite};
 ghost use Rattle.bitmap_format.specs.declared.ColorPlaneDefinition.TheVariants.{AYCoCg as aycocg};
+ghost use Rattle.bitmap_format.specs.Counting.{IsChromaColumn};
 ghost use Rattle.bitmap_format.specs.Planes.{subsampled};
 ghost use Rattle.bitmap_format.specs.Pixels.{three_bytes};
 ghost use Rattle.bitmap_rows.specs.Rows.{row_pixels};
@@ -30,7 +31,7 @@ fn write_subsampled_row(level: LossLevel, flagged: bool, row: FittingRow<'_>, ds
         dst,
         pairs,
         |pair|
-            requires { (2 * pair + 1 < length y.now) × (pair < length co.now) × (pair < length cg.now) }
+            requires { (2 * pair + 1 < length y.now) × (pair < length co.now) × (pair < length cg.now) × IsChromaColumn true (2 * pair) pair }
         {
             let left = level.color(flagged, y[2 * pair], co[pair], cg[pair]);
             let right = level.color(flagged, y[2 * pair + 1], co[pair], cg[pair]);
@@ -84,7 +85,7 @@ pub(crate) fn write_rgb24_pixels(rule: ColorRule, row: FittingRow<'_>, dst: &mut
                 dst,
                 row.width,
                 |i|
-                    requires { (i < length first.now) × (i < length second.now) × (i < length third.now) }
+                    requires { (i < length first.now) × (i < length second.now) × (i < length third.now) × IsChromaColumn false i i }
                 { level.color(rule.flagged, first[i], second[i], third[i]) },
             );
         }

@@ -3,11 +3,11 @@ use Rattle.std.proofs.Common.{rules, ◌≡◌, ℕ, List, ◌+◌, ◌-◌, ◌
 use Rattle.std.proofs.Math.ListN.{set, length-set}
 use Rattle.rle_format.proofs.Slice.{set-write_at}
 use Rattle.bitmap_format.specs.Image.{chroma_index}
-use Rattle.bitmap_rows.proofs.PixelLoop.{pixels_even_width, pixels_odd_width, pairs_written, doubled_pair, sample_at_lem, last_counted, chroma_half}
+use Rattle.bitmap_rows.proofs.PixelLoop.{pixels_even_width, pixels_odd_width, pairs_written, doubled_pair, sample_at_lem, last_counted, pairs_counted, chroma_half}
 use Rattle.bitmap_rows.proofs.chroma.double_fitting.Goals as goal
 
 pub write_each-requires-clause-callable : goal.write_each-requires-clause-callable
-write_each-requires-clause-callable c = λ i l. let half = chroma_half c.args.width (length c.args.samples.now) c.requires.0 in omega arith
+write_each-requires-clause-callable c = λ i l. let half = chroma_half c.args.width (length c.args.samples.now) c.requires.0 in (omega arith, pairs_counted i)
 
 pub bounds-samples-pairs : goal.bounds-samples-pairs
 bounds-samples-pairs c = omega (arith, chroma_half c.args.width (length c.args.samples.now) c.requires.0)

@@ -21,7 +21,7 @@ write_each-requires-in-AYCoCg-clause-callable c =
     let r = c.args.row in
     let second = full_side c.args.rule.definition r.subsampling c.requires.0 _ _ r.width _ c.in-AYCoCg.is c.if-use_chroma_subsampling.false r.second in
     let third = full_side c.args.rule.definition r.subsampling c.requires.0 _ _ r.width _ c.in-AYCoCg.is c.if-use_chroma_subsampling.false r.third in
-    λ i l. (omega arith, omega arith, omega arith)
+    λ i l. (omega arith, omega arith, omega arith, column_counted i)
 
 pub returns-in-Argb : goal.returns-in-Argb
 returns-in-Argb c =

@@ -5,7 +5,7 @@ use Rattle.bitmap_format.specs.declared.Rgb.{Rgb}
 use Rattle.bitmap_format.specs.Colour.{rgb24, aycocg_colour}
 use Rattle.bitmap_format.specs.Pixels.{three_bytes}
 use Rattle.bitmap_rows.specs.Rows.{pixel_at}
-use Rattle.bitmap_rows.proofs.PixelLoop.{pixels_even_width, pixels_odd_width, pairs_written, pixel_pair, aycocg_pixel, last_counted, chroma_subsampled}
+use Rattle.bitmap_rows.proofs.PixelLoop.{pixels_even_width, pixels_odd_width, pairs_written, pixel_pair, aycocg_pixel, last_counted, pairs_counted, chroma_subsampled}
 use Rattle.bitmap_rows.proofs.rgb24.write_subsampled_row.Goals as goal
 
 pub write_each-requires-clause-callable : goal.write_each-requires-clause-callable
@@ -13,7 +13,7 @@ write_each-requires-clause-callable c =
     let r = c.args.row in
     let co = chroma_subsampled _ r.width _ c.requires.0 r.second in
     let cg = chroma_subsampled _ r.width _ c.requires.0 r.third in
-    λ i l. (omega arith, omega arith, omega arith)
+    λ i l. (omega arith, omega arith, omega arith, pairs_counted i)
 
 pub bounds-co-pairs : goal.bounds-co-pairs
 bounds-co-pairs c = omega (arith, chroma_subsampled _ c.args.row.width _ c.requires.0 c.args.row.second)
@@ -33,7 +33,7 @@ returns-then-width-eq1 c =
     ap (λ (q : Rgb × Rgb). rgb24 q.0 ++ rgb24 q.1) e ∙ pixel_pair c.args.flagged c.args.level.level s.first.now s.second.now s.third.now i)) in
     let odd = c.if-width-eq1.true in
     pixels_odd_width 3 _ f (λ i. refl) _ r.width pairs _ _ _ odd c.write_each.auto.dst
-    (aycocg_pixel _ _ true s.first.now s.second.now s.third.now _ _ _ (last_counted r.width odd) c.color-last.ensures) refl c.store.auto.dst c.store.ensures
+    (aycocg_pixel _ _ true s.first.now s.second.now s.third.now _ _ _ (last_counted r.width odd) c.color-last.ensures.color) refl c.store.auto.dst c.store.ensures
 
 pub returns-else-width-eq1 : goal.returns-else-width-eq1
 returns-else-width-eq1 c =
