@@ -83,6 +83,13 @@ impl Replay for CaseKind {
 // Replays the case of a line, or returns None for a malformed line.
 fn replay_case(kind: CaseKind, line: &[u8]) -> Option<LineResult> {
     let (case, line) = next_case(kind, line)?;
+    replay_fields(case, line)
+}
+
+// Reads the remaining fields of a case, and replays it. The array stands before every test, and the function is not inlined: the compiler fills an
+// array that stands behind a test twice, and that of an inlined function for malformed lines too.
+#[inline(never)]
+fn replay_fields(case: Case, line: &[u8]) -> Option<LineResult> {
     let mut source = [0; MAX_SLICE];
     let (count, line) = read::next_bytes(line, &mut source)?;
     run(case, &source[..count], line)

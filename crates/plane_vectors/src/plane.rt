@@ -57,9 +57,16 @@ impl Replay for Operation {
 // Replays the case of a line, or returns None for a malformed line.
 fn replay_case(operation: Operation, line: &[u8]) -> Option<LineResult> {
     let (case, line) = next_case(operation, line)?;
+    replay_fields(case, line)
+}
+
+// Reads the remaining fields of a case, and replays it. The arrays stand before every test, and the function is not inlined: the compiler fills an
+// array that stands behind a test twice, and those of an inlined function for malformed lines too.
+#[inline(never)]
+fn replay_fields(case: Case, line: &[u8]) -> Option<LineResult> {
     let mut source = [0; MAX_SLICE];
-    let (count, line) = read::next_bytes(line, &mut source)?;
     let mut after = [0; MAX_SLICE];
+    let (count, line) = read::next_bytes(line, &mut source)?;
     let (room, line) = read::next_bytes(line, &mut after)?;
     if !line.is_empty() || room != case.room {
         return None;
