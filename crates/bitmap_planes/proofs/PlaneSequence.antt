@@ -152,7 +152,7 @@ module _ (p : PlaneAt) (body work after : List ℕ) (r : Result ℕ Refusal) (e 
 -- ---- the colour planes, by the sides of a chroma plane
 
 module _ (s : Bool) (w h cw ch : ℕ) (body work : List ℕ) (is_w : cw ≡ chroma_side_of s w) (is_h : ch ≡ chroma_side_of s h) where
-  colour_planes_are : colour_planes s w h ≡ plane_at w h 0 ∷ plane_at cw ch (w * h) ∷ plane_at cw ch (w * h + cw * ch) ∷ []
+  pub colour_planes_are : colour_planes s w h ≡ plane_at w h 0 ∷ plane_at cw ch (w * h) ∷ plane_at cw ch (w * h + cw * ch) ∷ []
   unfolding colour_planes first_plane second_plane third_plane
   colour_planes_are = λ i. plane_at w h 0 ∷ plane_at (sym is_w i) (sym is_h i) (w * h) ∷ plane_at (sym is_w i) (sym is_h i) (w * h + sym is_w i * sym is_h i) ∷ []
 

@@ -21,7 +21,7 @@ use Rattle.bitmap_format.proofs.PackRoom.{pack_picture_within}
 use Rattle.bitmap_format.proofs.EmptyDestination.{no_room}
 
 -- the destination and the answer, from the answer of packing the body; `dst` has the body from its second byte on
-abbrev header_written : EncodedAnswer → (dst : List ℕ) → StreamOutcome
+abbrev pub header_written : EncodedAnswer → (dst : List ℕ) → StreamOutcome
 header_written (encoded_count n header) dst = record { slice = set dst 0 (header_to_byte_of header); answer = counted (n + 1) }
 header_written (encoded_refusal r) dst = record { slice = dst; answer = refused r }
 

@@ -94,12 +94,12 @@ abbrev pub flipped : List ℕ → List ℕ
 flipped [] = []
 flipped (x ∷ xs) = (1 - x) ∷ flipped xs
 
-flipped_at : (xs : List ℕ) (j : ℕ) → j < length xs → get_or (flipped xs) j 0 ≡ 1 - get_or xs j 0
+pub flipped_at : (xs : List ℕ) (j : ℕ) → j < length xs → get_or (flipped xs) j 0 ≡ 1 - get_or xs j 0
 flipped_at [] j l = absurd (omega arith)
 flipped_at (x ∷ xs) zero l = refl
 flipped_at (x ∷ xs) (suc j) l = flipped_at xs j (omega arith)
 
-flipped_word : (xs : List ℕ) → Bits xs 0 (length xs) → word_of xs + word_of (flipped xs) ≡ word_of (replicate (length xs) 1)
+pub flipped_word : (xs : List ℕ) → Bits xs 0 (length xs) → word_of xs + word_of (flipped xs) ≡ word_of (replicate (length xs) 1)
 flipped_word [] h = refl
 flipped_word (x ∷ xs) h = omega (arith, h 0 (omega arith) (omega arith), flipped_word xs (λ j f l. h (suc j) (omega arith) (omega arith)))
 
