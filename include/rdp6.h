@@ -42,7 +42,7 @@
  *
  * Threads. There is no state: any number of threads may call at once, each with its own buffers.
  *
- * Stack. A call that packs takes at most 26,280 bytes, one that unpacks at most 26,329, whatever the sides. In a program that binds
+ * Stack. A call that packs takes at most 26,280 bytes, one that unpacks at most 26,377, whatever the sides. In a program that binds
  * lazily the first call takes more, since the dynamic linker looks up memmove and memset on the same stack: about 3,300 bytes, measured with
  * glibc 2.36. Linking with -z now avoids that.
  *

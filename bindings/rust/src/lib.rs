@@ -85,7 +85,7 @@
 //! # Slices, threads, stack
 //!
 //! Width and height are each from 1 to [`MAX_SIDE`]. No slice needs an alignment. There is no state: any number of threads may call at once. A
-//! call that packs takes at most 26,280 bytes of stack, one that unpacks at most 26,329, whatever the sides. The first call takes no more,
+//! call that packs takes at most 26,280 bytes of stack, one that unpacks at most 26,377, whatever the sides. The first call takes no more,
 //! since rustc links with `-z now` by default. Backtraces end in the library, since it has no unwind tables.
 //!
 //! # What is proved, and what must be believed
