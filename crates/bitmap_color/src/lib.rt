@@ -19,6 +19,7 @@ pub struct AYCoCgParams {
 
 // The colour of a pixel, or black if the loss level is not one of 1 to 7.
 // It stays beside `LossLevel::color`: its clause, which docs/PROOFS.md names, is of every level, 0 and 8 to 255 too.
+#[tactic(auto, using(crate::proofs::Colour::colour_level_known, crate::proofs::Colour::colour_level_refused))]
 pub fn aycocg_color(params: AYCoCgParams, y: u8, co: u8, cg: u8) -> Rgb
     ensures { result ≡ colour_or_black params.alpha params.color_loss_level y co cg }
 {

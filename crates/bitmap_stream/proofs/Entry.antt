@@ -21,7 +21,7 @@ use Rattle.bitmap_format.specs.Picture.{PictureOutcome, refused_picture}
 use Rattle.bitmap_format.specs.HeaderByte.{header_from_byte_of}
 use Rattle.bitmap_format.specs.Stream.{split, split_refused, without_pad, split_rest, split_stream_of, unpack_split, unpack_stream_by, stream_work_size_of}
 use Rattle.bitmap_stream.specs.declared.Split.{Split}
-use Rattle.bitmap_stream.specs.Split.{split_of}
+use Rattle.bitmap_stream.specs.Split.{split_of, body_of}
 
 -- a contract for one outcome is the contract for an equal one
 pub left_as : (p q : PictureOutcome) (a : Answer) (work image : List ℕ) → p ≡ q → (a ≡ q.answer) × ((work ≡ q.work) × (image ≡ q.image))
@@ -78,6 +78,11 @@ module _ (stream : List ℕ) (first : ℕ) (rest : List ℕ) (s : IsFirstAndRest
         without : (body : List ℕ) → split_rest header false (body ++ (pad ∷ [])) ≡ split header body
         without [] = refl
         without (b ∷ body) = ap (split header) (take_front (b ∷ body))
+
+-- the body begins behind the first byte, whatever follows it
+pub body_behind : (stream : List ℕ) (first : ℕ) (rest body tail : List ℕ) → IsFirstAndRest stream first rest → rest ≡ body ++ tail → body ≡ body_of stream (length body)
+body_behind stream first rest body tail s l =
+    sym (ap (λ (xs : List ℕ). body_of xs (length body)) s.0 ∙ ap (take (length body)) l ∙ take-append_seam body tail)
 
 -- ---- unpacking a split stream; u unpacks a body
 

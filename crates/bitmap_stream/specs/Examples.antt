@@ -1,6 +1,6 @@
 -- Examples of what the code returns for a split stream, worked out by hand: one constant list, what the definitions compute for each, and what is
 -- expected. proofs/Examples.antt has the one proof.
-use Rattle.std.specs.Prelude.{ℕ, true, false, List, [], ◌∷◌, Result, Ok, Err}
+use Rattle.std.specs.Prelude.{ℕ, true, false, List, [], ◌∷◌, length, Result, Ok, Err}
 use Rattle.rle_format.specs.declared.Refusal.{Refusal}
 use Rattle.rle_format.specs.declared.Refusal.TheVariants.{EmptyStream, MissingPad}
 use Rattle.bitmap_format.specs.declared.BitmapStreamHeader.{BitmapStreamHeader}
@@ -8,7 +8,7 @@ use Rattle.bitmap_format.specs.declared.ColorPlaneDefinition.TheVariants.{Argb}
 use Rattle.bitmap_format.specs.Examples as pictures
 use Rattle.bitmap_format.specs.Stream as format
 use Rattle.bitmap_stream.specs.declared.Split.{Split}
-use Rattle.bitmap_stream.specs.Split.{split_of}
+use Rattle.bitmap_stream.specs.Split.{split_of, body_of}
 
 -- a stream, what the code returns for it, and what that means
 pub record Example : Type 0 where
@@ -19,13 +19,18 @@ pub record Example : Type 0 where
 abbrev pub example : (stream : List ℕ) (returned : Result Split Refusal) (meaning : format.Split) → Example
 example stream returned meaning = record { stream = stream; returned = returned; meaning = meaning }
 
+-- what it means if the body is read from the stream
+abbrev pub read : (stream : List ℕ) → Result Split Refusal → format.Split
+read stream (Ok s) = format.split s.header (body_of stream (length s.body.now))
+read stream (Err r) = split_of (Err r)
+
 -- what the definitions compute
 abbrev pub computed : Example → List format.Split
-computed e = split_of e.returned ∷ format.split_stream_of e.stream ∷ []
+computed e = split_of e.returned ∷ read e.stream e.returned ∷ format.split_stream_of e.stream ∷ []
 
 -- what is expected
 abbrev pub expected : Example → List format.Split
-expected e = e.meaning ∷ e.meaning ∷ []
+expected e = e.meaning ∷ e.meaning ∷ e.meaning ∷ []
 
 -- ARGB without alpha, RLE and raw
 abbrev pub rle : BitmapStreamHeader

@@ -4,7 +4,7 @@
 
 mod header;
 
-ghost use Rattle.std.specs.Prelude.{◌≡◌, true, false, ℕ, ◌+◌, ◌<◌, min, length, set};
+ghost use Rattle.std.specs.Prelude.{◌≡◌, true, false, ℕ, ◌+◌, ◌<◌, min, length, set, IfOk};
 ghost use Rattle.rle_format.specs.Answer.{to_answer};
 ghost use Rattle.rle_format.specs.Sides.{check_sides_of};
 ghost use Rattle.pixel_format.specs.Channel.{channel_offsets};
@@ -12,7 +12,7 @@ ghost use Rattle.bitmap_format.specs.HeaderByte.{header_to_byte_of};
 ghost use Rattle.bitmap_format.specs.Pixels.{format_to_form};
 ghost use Rattle.bitmap_format.specs.PackPicture.{three_planes, four_planes, pixel_planes, pixel_planes_alpha};
 ghost use Rattle.bitmap_format.specs.Stream.{split_stream_of, unpack_stream_to, unpack_stream_of, unpack_pixel_stream, stream_work_size_of, pack_picture_stream};
-ghost use Rattle.bitmap_stream.specs.Split.{split_of};
+ghost use Rattle.bitmap_stream.specs.Split.{split_of, body_of};
 
 use bitmap_decoder::decode_to;
 use bitmap_encoder::{
@@ -32,7 +32,8 @@ pub struct Split<'a> {
 
 // Splits a stream into its header record and its body (FORMAT 1.7). Refusals 13 and 14.
 pub fn split_stream(stream: &[u8]) -> Result<Split<'_>, Refusal>
-    ensures { split_of result ≡ split_stream_of stream.now }
+    ensures split { split_of result ≡ split_stream_of stream.now }
+    ensures body { IfOk result (λ s. s.body.now ≡ body_of stream.now (length s.body.now)) }
 {
     let (first, rest) = stream.split_first().ok_or(Refusal::EmptyStream)?;
     let header = header_from_byte(*first);

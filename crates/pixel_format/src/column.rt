@@ -41,12 +41,11 @@ impl Column<'_> {
         }
     }
 
-    // A pixel as one word, its first byte lowest.
-    fn word(self, pixel: usize) -> u32
-        requires { pixel < length self.pixels.now / 4 }
-        ensures { result / 2 ^ (8 * self.entry.offset) % 256 ≡ slice_index (samples_at self.entry) pixel }
+    // The four bytes from index `at` on as one word, the first of them lowest.
+    fn word(self, at: usize) -> u32
+        requires { at + 4 ≤ length self.pixels.now }
+        ensures { result / 2 ^ (8 * self.entry.offset) % 256 ≡ slice_index self.entry.pixels.now (at + self.entry.offset) }
     {
-        let at = pixel * BgrAChannels::STRIDE;
         let bytes = self.pixels;
         u32::from_le_bytes([bytes[at], bytes[at + 1], bytes[at + 2], bytes[at + 3]])
     }
@@ -68,7 +67,7 @@ impl Column<'_> {
     {
         let mut words = [0u32; N];
         for (i, word) in words.iter_mut().enumerate() {
-            *word = self.word(from + i);
+            *word = self.word((from + i) * BgrAChannels::STRIDE);
         }
         for (k, sample) in dst.iter_mut().enumerate() {
             *sample = self.sample_of(words[k]);
