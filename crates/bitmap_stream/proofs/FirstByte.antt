@@ -132,3 +132,12 @@ module _ (alpha rle : Bool) (w h : ℕ) (p : List ℕ) (planes : List (List ℕ)
     stream_written =
         let is = sym (ap (λ (x : Result Encoded Refusal). header_written (encoded_to_answer x) (replace_suffix d start ys)) eb) ∙ both.0 in
         (ap (λ (o : StreamOutcome). o.answer) is, ap (λ (o : StreamOutcome). o.slice) is)
+
+-- the outcome of a call is that of a call with equal sides
+pub same_sides : (alpha rle : Bool) (planes : List (List ℕ)) (d : List ℕ) (w h v u : ℕ) (answer : Answer) (slice : List ℕ)
+    → (answer ≡ (pack_picture_stream alpha rle v u planes d).answer) × (slice ≡ (pack_picture_stream alpha rle v u planes d).slice) → v ≡ w → u ≡ h
+    → (answer ≡ (pack_picture_stream alpha rle w h planes d).answer) × (slice ≡ (pack_picture_stream alpha rle w h planes d).slice)
+same_sides alpha rle planes d w h v u answer slice is ew eh = (
+  is.0 ∙ (λ i. (pack_picture_stream alpha rle (ew i) (eh i) planes d).answer),
+  is.1 ∙ (λ i. (pack_picture_stream alpha rle (ew i) (eh i) planes d).slice),
+)

@@ -44,6 +44,10 @@ pub unknown_stream_by : (w h : ℕ) (stream work image : List ℕ) (layout : Opt
 unknown_stream_by w h stream work image layout is =
     sym (ap (λ (l : Option PixelLayout). c_unpack_pixel_stream l w h stream work image) is ∙ unknown_stream w h stream work image)
 
+-- the refusal for sides is that for equal ones
+pub same_sides : (w h v u : ℕ) (a : Answer) → unknown_layout v u ≡ a → v ≡ w → u ≡ h → a ≡ unknown_layout w h
+same_sides w h v u a is ew eh = sym is ∙ (λ i. unknown_layout (ew i) (eh i))
+
 -- what split_stream returns decides
 module _ (w h : ℕ) (stream : List ℕ) where
   answer_of : format.Split → Answer

@@ -1,9 +1,9 @@
 -- Packing a plane, when its sides were checked by `ValidSides::new`.
-use Rattle.std.proofs.Common.{◌≡◌, ℕ, ◌*◌, ◌<◌, ◌≤◌, List, Ok, Err, ltb, length}
+use Rattle.std.proofs.Common.{◌≡◌, ℕ, ◌*◌, ◌<◌, ◌≤◌, List, Ok, Err, ltb, length, sym, ◌∙◌}
 use Rattle.rle_format.specs.Choice.{choose}
 use Rattle.rle_format.specs.declared.Refusal.{Refusal}
 use Rattle.rle_format.specs.declared.valid_sides.ValidSides.{ValidSides}
-use Rattle.rle_format.specs.Answer.{number, refuse}
+use Rattle.rle_format.specs.Answer.{Outcome, number, refuse}
 use Rattle.rle_format.specs.Sides.{check_sides_of}
 use Rattle.rle_format.specs.CheckedSides.{sides_or_number}
 use Rattle.rle_format.specs.Pack.{plane_segments, write_segments, pack_plane}
@@ -25,3 +25,7 @@ module _ (w h room : ℕ) (samples : List ℕ) where
     pack_checked l =
         let same = sides_same w h s e in
         rw (← same.0, ← same.1) (pack_segments s.width s.height room samples s.allowed.some_width s.allowed.some_height s.allowed.wide s.allowed.high l)
+
+-- the outcome of packing is that for equal sides
+pub same_sides : (w h v u room : ℕ) (samples : List ℕ) (o : Outcome) → pack_plane v u room samples ≡ o → v ≡ w → u ≡ h → pack_plane w h room samples ≡ o
+same_sides w h v u room samples o is ew eh = (λ i. pack_plane (sym ew i) (sym eh i) room samples) ∙ is

@@ -1,10 +1,10 @@
 -- `encode_bitmap_alpha`: as `encode_bitmap`.
-use Rattle.std.proofs.Common.{true, [], ◌∷◌, Ok, Err, refl, ap, ◌∙◌}
+use Rattle.std.proofs.Common.{true, [], ◌∷◌, Ok, Err, refl, ap, ◌∙◌, arith}
 use Rattle.std.proofs.lemmas.Result.{err_from_is_err_and}
 use Rattle.rle_format.specs.Answer.{counted}
 use Rattle.pixel_format.specs.declared.Channel.TheVariants.{R, G, B, A}
 use Rattle.pixel_format.specs.Channel.{channel_offsets, channel}
-use Rattle.bitmap_stream.proofs.FirstByte.{stream_refused, stream_fits, stream_written}
+use Rattle.bitmap_stream.proofs.FirstByte.{stream_refused, stream_fits, stream_written, same_sides}
 use Rattle.bitmap_stream.proofs.encode_bitmap_alpha.Goals as goal
 
 pub returns-in_err-body : goal.returns-in_err-body
@@ -13,8 +13,9 @@ returns-in_err-body c =
     let start = c.body_start-start in
     let p = c.encode_bitmap_body_alpha in
     let why = c.in_err-body in
-    let w = stream_refused true a.rle a.width a.height (channel (channel_offsets a.layout) A a.src.now) (channel (channel_offsets a.layout) R a.src.now ∷ channel (channel_offsets a.layout) G a.src.now ∷ channel (channel_offsets a.layout) B a.src.now ∷ []) a.dst.now p.new.dst start.result start.ensures
+    let is = stream_refused true a.rle _ _ (channel (channel_offsets a.layout) A a.src.now) (channel (channel_offsets a.layout) R a.src.now ∷ channel (channel_offsets a.layout) G a.src.now ∷ channel (channel_offsets a.layout) B a.src.now ∷ []) a.dst.now p.new.dst start.result start.ensures
     (Err why.field-0.0) p.auto.dst why.ensures.answer why.ensures.slice why.field-0.0 refl in
+    let w = same_sides _ _ _ _ a.width a.height _ _ _ _ is (omega arith) (omega arith) in
     let q = err_from_is_err_and c.from_residual.result c.from_residual.ensures.1 in
     record { answer = rw (q.1, q.2) w.0; slice = w.1 }
 
@@ -24,7 +25,7 @@ write_header_byte-requires c =
     let start = c.body_start-start in
     let p = c.encode_bitmap_body_alpha in
     let packed = c.in_ok-body in
-    stream_fits true a.rle a.width a.height (channel (channel_offsets a.layout) A a.src.now) (channel (channel_offsets a.layout) R a.src.now ∷ channel (channel_offsets a.layout) G a.src.now ∷ channel (channel_offsets a.layout) B a.src.now ∷ []) a.dst.now p.new.dst start.result start.ensures
+    stream_fits true a.rle _ _ (channel (channel_offsets a.layout) A a.src.now) (channel (channel_offsets a.layout) R a.src.now ∷ channel (channel_offsets a.layout) G a.src.now ∷ channel (channel_offsets a.layout) B a.src.now ∷ []) a.dst.now p.new.dst start.result start.ensures
     (Ok packed.body) p.auto.dst packed.ensures.answer packed.ensures.slice packed.body refl
 
 pub returns : goal.returns
@@ -34,6 +35,7 @@ returns c =
     let p = c.encode_bitmap_body_alpha in
     let packed = c.in_ok-body in
     let f = c.write_header_byte in
-    let w = stream_written true a.rle a.width a.height (channel (channel_offsets a.layout) A a.src.now) (channel (channel_offsets a.layout) R a.src.now ∷ channel (channel_offsets a.layout) G a.src.now ∷ channel (channel_offsets a.layout) B a.src.now ∷ []) a.dst.now p.new.dst start.result start.ensures
+    let is = stream_written true a.rle _ _ (channel (channel_offsets a.layout) A a.src.now) (channel (channel_offsets a.layout) R a.src.now ∷ channel (channel_offsets a.layout) G a.src.now ∷ channel (channel_offsets a.layout) B a.src.now ∷ []) a.dst.now p.new.dst start.result start.ensures
     (Ok packed.body) p.auto.dst packed.ensures.answer packed.ensures.slice packed.body refl in
+    let w = same_sides _ _ _ _ a.width a.height _ _ _ _ is (omega arith) (omega arith) in
     record { answer = ap counted f.ensures.count ∙ w.0; slice = f.ensures.slice ∙ w.1 }
